@@ -9,6 +9,8 @@ use Rattle.std.specs.Options.{mapped}
 use Rattle.std.specs.declared.option.Option.{Option}
 use Rattle.std.specs.declared.option.Option.the-variants.{Some, None}
 use Rattle.std.proofs.shelf.Lists.{at-drop-more, at-drop-all}
+use lib.Dec.{ltb}
+use Rattle.std.proofs.shelf.Tests.{lt-ltb}
 use Rattle.engine.specs.declared.sheet.Sheet.{Sheet}
 use Rattle.engine.specs.declared.count.Tally.{Tally}
 use Rattle.engine.specs.Sheets.{Pair, pair, after}
@@ -32,3 +34,26 @@ counts-on ss i d t o whole h e inv = ap (onFrom (drop (i + 1) ss)) e ∙ sym (on
 
 pub counted-all : (ss : List Sheet) (i : ℕ) (t : Pair) (whole : Option Pair) → length ss ≤ i → tallyIn t (drop i ss) ≡ whole → Some t ≡ whole
 counted-all ss i t whole h inv = sym (at-drop-all (tallyIn t) ss i h) ∙ inv
+
+-- the tally with one more sheet is the one after it
+pub plus-is : (t u : Pair) (s : Sheet) → Some u ≡ plusOf t s → u ≡ after t s
+plus-is t u s e = go (fits t s) e
+  where
+    go : (b : Bool) → Some u ≡ cond b (Some (after t s)) None → u ≡ after t s
+    go true h = cc
+    go false h = absurd (let z : _≡_ {A = ℕ} 0 1 = cc in omega arith)
+
+-- and it is there where the counts can grow
+pub plus-fits : (t : Pair) (s : Sheet) → None ≡ plusOf t s → fits t s ≡ false
+plus-fits t s e = go (fits t s) refl e
+  where
+    go : (b : Bool) → fits t s ≡ b → None ≡ cond b (Some (after t s)) None → b ≡ false
+    go true f h = absurd (let z : _≡_ {A = ℕ} 0 1 = cc in omega arith)
+    go false f h = refl
+
+pub fits-is : (t : Pair) (s : Sheet) → (s .last ≡ true → t .pages < 65535) → t .copies < 255 → fits t s ≡ true
+fits-is t s p c = go (s .last) refl
+  where
+    go : (b : Bool) → s .last ≡ b → cond b (ltb (t .pages) 65535) (ltb (t .copies) 255) ≡ true
+    go true e = lt-ltb (t .pages) 65535 (p e)
+    go false e = lt-ltb (t .copies) 255 c

@@ -1,7 +1,8 @@
 -- What an engine does, by the paper in it.
 --   Paper      the path (sheets that were fed, the oldest first), the bin (stacked sheets, the latest last)
 --              and the room (how many more sheets the bin takes)
---   fed        the paper once a sheet is fed, and whether it is taken: not where the path holds K sheets
+--   taken      whether a sheet that is fed is taken: not where the path holds K sheets
+--   fed        the paper once a sheet is fed
 --   advance    the paper once the path's oldest sheet is stacked; as it was where there is none or no room
 --   advanced   what an advance answers
 --   purged     the paper with the path emptied
@@ -27,8 +28,12 @@ paper p b n = record { path = p; bin = b; room = n }
 abbrev pub taken : ℕ → Paper → Bool
 taken K p = ltb (length (p .path)) K
 
+-- a sheet at the end of the path
+abbrev pub put : Sheet → Paper → Paper
+put s p = paper (p .path ++ (s ∷ [])) (p .bin) (p .room)
+
 abbrev pub fed : ℕ → Sheet → Paper → Paper
-fed K s p = cond (taken K p) (paper (p .path ++ (s ∷ [])) (p .bin) (p .room)) p
+fed K s p = cond (taken K p) (put s p) p
 
 abbrev pub advanceAt : List Sheet → List Sheet → ℕ → Paper
 advanceAt [] bin n = paper [] bin n

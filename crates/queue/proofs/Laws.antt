@@ -1,6 +1,6 @@
 -- What the operations leave of the queue itself, and of the places behind it.
 use mathlib.Core.Path.{_≡_, refl, sym, ap, _∙_}
-use mathlib.Core.Bool.{true}
+use mathlib.Core.Bool.{true, cond}
 use mathlib.Core.List.{List, [], _∷_, _++_, append-assoc}
 use Prim.Native.Nat.{ℕ, zero, suc, _+_, _-_, _<_, _≤_}
 use native.Mathlib.Omega.{arith}
@@ -67,3 +67,17 @@ first-taken xs n d some le = first-and-rest xs n d some le ∙ ap (λ ys. getD x
 
 pub first-is : {A : Type 0} (xs : List A) (n : ℕ) (d : A) → 0 < n → n ≤ length xs → firstOf xs n ≡ Some (getD xs 0 d)
 first-is xs n d some le = cond-true _ _ _ (le-leb n (length xs) le) ∙ ap headOf (first-and-rest xs n d some le)
+
+-- the same of what `take_first` left: ys in the place of xs
+module _ {A : Type 0} (xs ys : List A) (n : ℕ) (some : 0 < n) (le : n ≤ length xs) (is : ys ≡ cond (gapIn xs n 0) (closed xs n 0) xs) where
+  left : ys ≡ closed xs n 0
+  left = is ∙ cond-true _ _ _ (gap-is xs n 0 some le)
+
+  pub left-rest : take (n - 1) ys ≡ drop 1 (take n xs)
+  left-rest = ap (take (n - 1)) left ∙ closed-queue xs n 0 some le
+
+  pub left-first : (d : A) → take n xs ≡ getD xs 0 d ∷ take (n - 1) ys
+  left-first d = first-taken xs n d some le ∙ ap (λ zs. getD xs 0 d ∷ take (n - 1) zs) (sym left)
+
+  pub left-length : length ys ≡ length xs
+  left-length = ap length left ∙ closed-length xs n 0 some le

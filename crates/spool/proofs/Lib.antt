@@ -1,0 +1,3 @@
+pub mod Waiting
+pub mod Tracked
+pub mod Feeding

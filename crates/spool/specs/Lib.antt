@@ -1,0 +1,9 @@
+pub mod Waits
+pub mod Jobs
+pub mod Spooled
+pub mod Spools
+pub mod Flows
+pub mod Views
+pub mod Courses
+pub mod Receivers
+pub mod Runs
