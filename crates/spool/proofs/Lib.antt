@@ -1,3 +1,11 @@
 pub mod Waiting
 pub mod Tracked
 pub mod Feeding
+pub mod Jobs
+pub mod Delivery
+pub mod Turning
+pub mod Flowing
+pub mod Turns
+pub mod Events
+pub mod Calls
+pub mod Seen
