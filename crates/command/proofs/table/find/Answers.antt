@@ -1,0 +1,6 @@
+use Rattle.command.specs.Tables.{rowOf}
+use Rattle.command.proofs.table.find.Needs as need
+
+pub returns : need.returns
+unfolding rowOf
+returns c = c .find-in .ensures
