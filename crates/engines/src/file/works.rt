@@ -90,7 +90,9 @@ pub impl Engine for FileEngine as FileEngineEngine {
         }
         let packed = record(sheet);
         let at = 8 * self.stacked;
-        self.bytes.as_mut_slice()[at..at + 8].copy_from_slice(&packed);
+        self.bytes
+            .as_mut_slice()[at..at + 8]
+            .copy_from_slice(&packed);
         self.stacked += 1;
         self.path = None;
         Advanced::Stacked(sheet)
