@@ -1,8 +1,7 @@
 -- What it tells of a queue that its first element was taken, or that there was none.
 use mathlib.Core.Path.{_≡_, refl, sym, ap, _∙_}
 use mathlib.Core.List.{List, [], _∷_}
-use mathlib.Core.Bool.{Bool, true, false, cond}
-use mathlib.Core.Logic.{_⊎_, inl, inr}
+use mathlib.Core.Bool.{true, false, cond}
 use Prim.Native.Nat.{ℕ, zero, suc, _-_, _<_, _≤_}
 use native.Mathlib.Omega.{arith}
 use lib.Dec.{leb}
@@ -14,7 +13,7 @@ use Rattle.queue.specs.Queues.{gapIn, closed, firstOf}
 use Rattle.queue.proofs.Laws.{gap-is, first-taken, first-is}
 
 -- an empty queue has no first element
-pub first-of-none : {A : Type 0} (xs : List A) → firstOf xs 0 ≡ None
+first-of-none : {A : Type 0} (xs : List A) → firstOf xs 0 ≡ None
 first-of-none {A} xs = elim (leb 0 (length xs)) as (λ b. cond {A = Option A} b None None ≡ None) [ true ↦ refl | false ↦ refl ]
 
 -- a queue without a first element is empty
@@ -26,15 +25,15 @@ no-first (x ∷ xs) (suc n) le e =
     let z : _≡_ {A = ℕ} 0 1 = cc in
     absurd (omega arith)
 
--- a queue with one has an element
-pub has-first : {A : Type 0} (xs : List A) (n : ℕ) (s : A) → Some s ≡ firstOf xs n → 0 < n
+-- a queue with a first element is not empty
+has-first : {A : Type 0} (xs : List A) (n : ℕ) (s : A) → Some s ≡ firstOf xs n → 0 < n
 has-first xs zero s e =
     let none = first-of-none xs in
     let z : _≡_ {A = ℕ} 0 1 = cc in
     absurd (omega arith)
 has-first xs (suc n) s e = omega arith
 
--- which is its first, and the others are left
+-- the element taken is the queue's first, and the others are left
 pub took-first : {A : Type 0} (xs ys : List A) (n : ℕ) (s : A) → n ≤ length xs → Some s ≡ firstOf xs n → ys ≡ cond (gapIn xs n 0) (closed xs n 0) xs → take n xs ≡ s ∷ take (n - 1) ys
 took-first xs ys n s le e g =
     let some = has-first xs n s e in

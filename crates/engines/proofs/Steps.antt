@@ -1,11 +1,11 @@
--- The three ways of an advance, and the two of a feed.
-use mathlib.Core.Path.{_≡_, refl, sym, ap, _∙_}
+-- The three ways of an advance, and a feed that is taken.
+use mathlib.Core.Path.{_≡_, sym, ap, _∙_}
 use mathlib.Core.List.{List, [], _∷_, _++_}
-use mathlib.Core.Bool.{Bool, true, false}
-use Prim.Native.Nat.{ℕ, zero, suc, _+_, _<_, _≤_}
+use mathlib.Core.Bool.{Bool, true}
+use Prim.Native.Nat.{ℕ, suc, _<_}
 use native.Mathlib.Omega.{arith}
 use lib.ListN.{length}
-use Rattle.std.proofs.shelf.Tests.{lt-ltb, le-ltb, cond-true, cond-false}
+use Rattle.std.proofs.shelf.Tests.{lt-ltb, cond-true}
 use Rattle.engine.specs.declared.sheet.Sheet.{Sheet}
 use Rattle.engine.specs.declared.sheet.Advanced.{Advanced}
 use Rattle.engine.specs.declared.sheet.Advanced.the-variants.{Stacked, PathEmpty, BinFull}
@@ -54,9 +54,3 @@ takes K s path path′ bin n h e =
       taken = sym b;
       paper = ap (λ p. paper p bin n) e ∙ sym (cond-true _ (paper (path ++ (s ∷ [])) bin n) (paper path bin n) b);
     }
-
--- there is none
-pub refuses : (K : ℕ) (s : Sheet) (path bin : List Sheet) (n : ℕ) → K ≤ length path → Feeds K s (paper path bin n) false (paper path bin n)
-refuses K s path bin n h =
-    let b = le-ltb (length path) K h in
-    record { taken = sym b; paper = sym (cond-false _ (paper (path ++ (s ∷ [])) bin n) (paper path bin n) b) }

@@ -1,13 +1,11 @@
 use borrow.Author.Needs.{needs}
 use native.Mathlib.Omega.{arith}
-use mathlib.Core.List.{[]}
-use mathlib.Core.Path.{_≡_, refl, sym, ap, _∙_}
-use Prim.Native.Nat.{ℕ, suc, _+_, _-_, _<_}
+use mathlib.Core.Path.{_≡_, refl, ap}
 use lib.ListN.{length, take}
 use Rattle.std.proofs.shelf.Lists.{length-take-le, take-more-set}
 use Rattle.engines.specs.Tracks.{pathOf, binOf, roomOf}
 use Rattle.engines.proofs.Steps.{none, full, stacks}
-use Rattle.engines.proofs.Firsts.{no-first, has-first, took-first}
+use Rattle.engines.proofs.Firsts.{no-first, took-first}
 use Rattle.engines.proofs.track.works.TrackEngineEngine.advance.Needs as need
 
 pub returns-then-self-len : need.returns-then-self-len
@@ -20,8 +18,8 @@ returns-then-self-len c =
 pub returns-in-rest : need.returns-in-rest
 returns-in-rest c =
     let e = c .args .self .now in
-    let zero : e .held ≡ 0 = no-first (e .path) (e .held) (omega arith) (c .in-rest .ensures tt .first) in
-    let way = none (pathOf e) (take (e .held) (c .take-first .last .slots)) (binOf e) (roomOf e) (ap (λ n. take n (e .path)) zero) (ap (λ n. take n (c .take-first .last .slots)) zero) in
+    let empty : e .held ≡ 0 = no-first (e .path) (e .held) (omega arith) (c .in-rest .ensures tt .first) in
+    let way = none (pathOf e) (take (e .held) (c .take-first .last .slots)) (binOf e) (roomOf e) (ap (λ n. take n (e .path)) empty) (ap (λ n. take n (c .take-first .last .slots)) empty) in
     record { answer = way .answer; paper = way .paper; list = refl }
 
 pub returns : need.returns
