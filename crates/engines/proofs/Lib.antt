@@ -1,0 +1,4 @@
+pub mod Steps
+pub mod Firsts
+pub mod Packing
+pub mod Filing

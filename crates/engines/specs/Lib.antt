@@ -1,0 +1,4 @@
+pub mod Soundness
+pub mod Tracks
+pub mod Records
+pub mod Files
