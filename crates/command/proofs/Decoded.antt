@@ -19,7 +19,7 @@ use Rattle.command.specs.Headers.{headerOf, plainFlag, dataOf}
 use Rattle.command.specs.Tables.{rowOf, fits, permits}
 use Rattle.command.specs.Commands.{readAs, decodedBy, decoded, readBy, commandBy, commandIn}
 
-decoded-by : (o : Option Row) (s : State) (h : Header) (d : List ℕ) (c : Command) → decodedBy o s h d ≡ Ok c → readBy o d ≡ Ok c
+pub decoded-by : (o : Option Row) (s : State) (h : Header) (d : List ℕ) (c : Command) → decodedBy o s h d ≡ Ok c → readBy o d ≡ Ok c
 decoded-by None s h d c e = absurd (let z : _≡_ {A = ℕ} 0 1 = cc in omega arith)
 decoded-by (Some r) s h d c e = go (permits (r .allowed) s) (fits (r .length) (length d)) (plainFlag h) e
   where

@@ -1,1 +1,3 @@
 mod Refusing
+pub mod Performed
+pub mod Effects

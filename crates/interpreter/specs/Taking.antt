@@ -7,6 +7,7 @@
 --   settled      accepted, or refused by a fault: what is open is dropped, and the negative reply is handed over or
 --                is pending
 --   takeOf       the checks in their order
+--   jammed       paper was lost: what waits and what is open is dropped, and this fault is pending instead of any other
 use mathlib.Core.Bool.{Bool, true, false, cond}
 use mathlib.Core.List.{List}
 use Prim.Native.Nat.{ℕ}
@@ -20,19 +21,19 @@ use Rattle.std.specs.declared.result.Result.the-variants.{Ok, Err}
 use Rattle.command.specs.declared.header.Header.{Header}
 use Rattle.command.specs.declared.refusal.Fault.{Fault}
 use Rattle.command.specs.declared.refusal.Refusal.{Refusal}
-use Rattle.command.specs.declared.refusal.Refusal.the-variants.{Incomplete, AreaShort, LengthOutOfRange, SixteenWait, ReplyPending}
+use Rattle.command.specs.declared.refusal.Refusal.the-variants.{Incomplete, AreaShort, LengthOutOfRange, SixteenWait, PaperLost, ReplyPending}
 use Rattle.command.specs.declared.state.Command.{Command}
 use Rattle.command.specs.declared.state.State.{State}
 use Rattle.command.specs.declared.state.State.the-variants.{Home, Page}
 use Rattle.command.specs.Headers.{headerOf, inRange, asksReply, dataOf}
 use Rattle.command.specs.Commands.{decoded}
-use Rattle.spool.specs.Spooled.{full}
+use Rattle.spool.specs.Spooled.{full, jam}
 use Rattle.spool.specs.Spools.{numbersOf}
 use Rattle.reply.specs.Replies.{ack, nack, written}
 use Rattle.interpreter.specs.declared.taken.Outcome.the-variants.{Accepted, Refused}
 use Rattle.interpreter.specs.declared.taken.Taken.{Taken}
 use Rattle.interpreter.specs.Outcomes.{told}
-use Rattle.interpreter.specs.Machines.{Machine, home, pend, pageId}
+use Rattle.interpreter.specs.Machines.{Machine, machine, home, pend, pageId}
 use Rattle.interpreter.specs.Performing.{perform}
 
 pub record Taking : Type 0 where
@@ -79,7 +80,7 @@ settled (Err r) h m area = faulted (faultOf r h (m .state)) h m area
 -- the end of a page that cannot wait yet
 abbrev pub blockedIn : State → Header → Machine → Bool
 blockedIn Home h m = false
-blockedIn (Page id) h m = cond (eqb (h .code) 0xD6BF) (full (m .spool)) false
+blockedIn (Page id) h m = cond (eqb 0xD6BF (h .code)) (full (m .spool)) false
 
 abbrev pub blocked : Header → Machine → Bool
 blocked h m = blockedIn (m .state) h m
@@ -105,3 +106,10 @@ headed (Some h) bs m area =
 
 abbrev pub takeOf : List ℕ → Machine → List ℕ → Taking
 takeOf bs m area = headed (headerOf bs) bs m area
+
+-- no command is to blame
+abbrev pub lostPaper : State → Fault
+lostPaper s = record { refusal = PaperLost; host = 0; command = 0; offset = 0; overlay = 0; page = pageId s }
+
+abbrev pub jammed : Machine → Machine
+jammed m = machine (jam (m .spool)) Home (m .copies) (Some (lostPaper (m .state))) (m .marks)

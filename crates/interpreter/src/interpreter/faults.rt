@@ -4,9 +4,9 @@ ghost use mathlib.Core.Path.{_≡_};
 ghost use Prim.Native.Nat.{ℕ, _≤_};
 ghost use lib.ListN.{length};
 ghost use Rattle.interpreter.specs.declared.taken.Outcome.the-variants.{Refused as Denied};
-ghost use Rattle.interpreter.specs.Machines.{machineOf};
+ghost use Rattle.interpreter.specs.Machines.{machineOf, pageId};
 ghost use Rattle.interpreter.specs.Outcomes.{told};
-ghost use Rattle.interpreter.specs.Taking.{taking, unreadable, handed, accepted, faulted, faultOf};
+ghost use Rattle.interpreter.specs.Taking.{taking, unreadable, handed, accepted, faulted, faultOf, jammed};
 ghost use Rattle.spool.specs.declared.spool.Spool.{Spool as Pages};
 use super::Interpreter;
 use crate::taken::Outcome;
@@ -42,21 +42,27 @@ impl Interpreter {
         }
     }
 
+    // The ID of the open page; 0 where none is.
+    fn open_page(&self) -> u32
+        ensures { λ r. ⌜ r ≡ pageId (now (self .entry) .state) ⌝ }
+    {
+        match self.state {
+            State::Home => 0,
+            State::Page(page) => page,
+        }
+    }
+
     // What the host is told of a refusal of its command.
     fn fault(&self, refusal: Refusal, header: Header) -> Fault
         ensures { λ r. ⌜ r ≡ faultOf refusal header (now (self .entry) .state) ⌝ }
     {
-        let page = match self.state {
-            State::Home => 0,
-            State::Page(page) => page,
-        };
         Fault {
             refusal,
             host: header.code,
             command: header.code,
             offset: 0,
             overlay: 0,
-            page,
+            page: self.open_page(),
         }
     }
 
@@ -113,5 +119,21 @@ impl Interpreter {
         }
         let size = reply::refuse(reply, spool.counters(), fault);
         self.used_up(header, Outcome::Refused(refusal), size)
+    }
+
+    // Paper was lost: what waits and what is open is dropped, and the host is to be told instead of anything earlier.
+    pub fn jam(&mut self, spool: &mut Spool)
+        ensures { λ _. ⌜ machineOf (now (self .exit)) (now (spool .exit)) ≡ jammed (machineOf (now (self .entry)) (now (spool .entry))) ⌝ }
+    {
+        self.pending = Some(Fault {
+            refusal: Refusal::PaperLost,
+            host: 0,
+            command: 0,
+            offset: 0,
+            overlay: 0,
+            page: self.open_page(),
+        });
+        self.state = State::Home;
+        spool.jam();
     }
 }
