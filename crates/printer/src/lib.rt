@@ -1,0 +1,5 @@
+// A printer end over any engine.
+mod feeding;
+mod printer;
+
+pub use printer::Printer;
