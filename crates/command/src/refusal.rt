@@ -2,6 +2,9 @@
 ghost use mathlib.Core.Path.{_≡_};
 ghost use Rattle.command.specs.Refusals.{numberOf, layerOf, exceptionOf};
 
+// Where commands are checked and obeyed.
+const COMMAND_LAYER: u8 = 1;
+
 // The grounds, each with its number.
 #[derive(Clone, Copy)]
 pub enum Refusal {
@@ -67,11 +70,11 @@ impl Refusal {
         }
     }
 
-    // The layer that found it: 1 commands.
+    // The layer that found it.
     pub fn layer(self) -> u8
         ensures { λ r. ⌜ r ≡ layerOf self ⌝ }
     {
-        1
+        COMMAND_LAYER
     }
 
     // The exception code: sense bytes 0, 1 and 19.

@@ -39,12 +39,42 @@ pub struct Row {
 }
 
 const TABLE: [Row; 6] = [
-    Row { code: 0xD6AF, kind: Kind::BeginPage, length: DataLength::Exactly(4), allowed: Allowed::Home },
-    Row { code: 0xD69F, kind: Kind::LoadCopyControl, length: DataLength::Exactly(2), allowed: Allowed::Home },
-    Row { code: 0xD6BF, kind: Kind::EndPage, length: DataLength::Any, allowed: Allowed::Open },
-    Row { code: 0xD603, kind: Kind::NoOperation, length: DataLength::Any, allowed: Allowed::Every },
-    Row { code: 0xD697, kind: Kind::SetHomeState, length: DataLength::Any, allowed: Allowed::Every },
-    Row { code: 0xD633, kind: Kind::ExecuteOrderAnyState, length: DataLength::Exactly(2), allowed: Allowed::Every },
+    Row {
+        code: 0xD6AF,
+        kind: Kind::BeginPage,
+        length: DataLength::Exactly(4),
+        allowed: Allowed::Home,
+    },
+    Row {
+        code: 0xD69F,
+        kind: Kind::LoadCopyControl,
+        length: DataLength::Exactly(2),
+        allowed: Allowed::Home,
+    },
+    Row {
+        code: 0xD6BF,
+        kind: Kind::EndPage,
+        length: DataLength::Any,
+        allowed: Allowed::Open,
+    },
+    Row {
+        code: 0xD603,
+        kind: Kind::NoOperation,
+        length: DataLength::Any,
+        allowed: Allowed::Every,
+    },
+    Row {
+        code: 0xD697,
+        kind: Kind::SetHomeState,
+        length: DataLength::Any,
+        allowed: Allowed::Every,
+    },
+    Row {
+        code: 0xD633,
+        kind: Kind::ExecuteOrderAnyState,
+        length: DataLength::Exactly(2),
+        allowed: Allowed::Every,
+    },
 ];
 
 impl DataLength {

@@ -22,7 +22,24 @@ pub fn heading_of(size: u8, kind: u8, counters: Counters) -> [u8; 16]
     let (c0, c1) = two_bytes(u16::from(counters.committed.copies.0));
     let (q0, q1) = two_bytes(counters.stacked.pages.0);
     let (d0, d1) = two_bytes(u16::from(counters.stacked.copies.0));
-    [0x00, size, 0xD6, 0xFF, 0x00, kind, r0, r1, p0, p1, c0, c1, q0, q1, d0, d1]
+    [
+        0x00,
+        size,
+        0xD6,
+        0xFF,
+        0x00,
+        kind,
+        r0,
+        r1,
+        p0,
+        p1,
+        c0,
+        c1,
+        q0,
+        q1,
+        d0,
+        d1,
+    ]
 }
 
 pub fn sense_of(fault: Fault) -> [u8; 24]
@@ -37,6 +54,29 @@ pub fn sense_of(fault: Fault) -> [u8; 24]
     let number = fault.refusal.number();
     let layer = fault.refusal.layer();
     [
-        e0, e1, h0, h1, c0, c1, o0, o1, layer, v0, v1, number, 0, 0, 0, 0, 0, 0, 0, e19, p0, p1, p2, p3,
+        e0,
+        e1,
+        h0,
+        h1,
+        c0,
+        c1,
+        o0,
+        o1,
+        layer,
+        v0,
+        v1,
+        number,
+        0,
+        0,
+        0,
+        0,
+        0,
+        0,
+        0,
+        e19,
+        p0,
+        p1,
+        p2,
+        p3,
     ]
 }

@@ -50,9 +50,9 @@ stack-fits s x xs e =
     let few : t .copies ≤ 254 = s .each 0 (omega arith) in
     fits-is t x
     (λ last.
-        let c : s .committed .pages .0 ≡ onward (after t x) xs .pages = s .whole ∙ ap (λ l. onward t l .pages) e in
-        let a : after t x .pages ≡ t .pages + 1 = ap (λ (u : Pair). u .pages) (after-last t x last) in
-        omega (arith, s .paged, s .fits, onward-pages (after t x) xs))
+    let c : s .committed .pages .0 ≡ onward (after t x) xs .pages = s .whole ∙ ap (λ l. onward t l .pages) e in
+    let a : after t x .pages ≡ t .pages + 1 = ap (λ (u : Pair). u .pages) (after-last t x last) in
+    omega (arith, s .paged, s .fits, onward-pages (after t x) xs))
     (omega arith)
 
 -- it is gone from the path: m is the path before, n after

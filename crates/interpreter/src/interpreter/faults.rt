@@ -82,7 +82,13 @@ impl Interpreter {
     }
 
     // Discarded while a negative reply is pending; with a request the reply is handed over.
-    pub(super) fn hand_over(&mut self, spool: &Spool, header: Header, fault: Fault, reply: &mut [u8]) -> Taken
+    pub(super) fn hand_over(
+        &mut self,
+        spool: &Spool,
+        header: Header,
+        fault: Fault,
+        reply: &mut [u8],
+    ) -> Taken
         requires { ⌜ 40 ≤ length (now reply) ⌝ }
         ensures { λ r. ⌜ taking (machineOf (now (self .exit)) (now (spool .entry))) (now (reply .exit)) r ≡ handed fault header (machineOf (now (self .entry)) (now (spool .entry))) (now (reply .entry)) ⌝ }
     {
@@ -107,7 +113,13 @@ impl Interpreter {
     }
 
     // The command is at fault: what is open is dropped, and the negative reply is handed over or is pending.
-    pub(super) fn refuse(&mut self, spool: &Spool, header: Header, refusal: Refusal, reply: &mut [u8]) -> Taken
+    pub(super) fn refuse(
+        &mut self,
+        spool: &Spool,
+        header: Header,
+        refusal: Refusal,
+        reply: &mut [u8],
+    ) -> Taken
         requires { ⌜ 40 ≤ length (now reply) ⌝ }
         ensures { λ r. ⌜ taking (machineOf (now (self .exit)) (now (spool .entry))) (now (reply .exit)) r ≡ faulted (faultOf refusal header (now (self .entry) .state)) header (machineOf (now (self .entry)) (now (spool .entry))) (now (reply .entry)) ⌝ }
     {

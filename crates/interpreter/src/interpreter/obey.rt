@@ -79,7 +79,12 @@ impl Interpreter {
     }
 
     // A command whose length is right: its code, state, data length and flag are checked, and it is obeyed.
-    pub(super) fn interpret(&mut self, spool: &mut Spool, header: Header, data: &[u8]) -> Result<(), Refusal>
+    pub(super) fn interpret(
+        &mut self,
+        spool: &mut Spool,
+        header: Header,
+        data: &[u8],
+    ) -> Result<(), Refusal>
         ensures { λ r. ⌜ Leaves (interpreted header (now («data» .entry)) (machineOf (now (self .entry)) (now (spool .entry)))) (machineOf (now (self .entry)) (now (spool .entry))) (machineOf (now (self .exit)) (now (spool .exit))) r ⌝ }
     {
         let command = decode(self.state, header, data)?;

@@ -37,7 +37,13 @@ impl<E: Engine> Printer<E> {
     }
 
     // Carries out the first command in the bytes, with the caller's areas.
-    pub fn take(&mut self, bytes: &[u8], reply: &mut [u8], marks: &mut [Mark], memory: &mut [u8]) -> Taken
+    pub fn take(
+        &mut self,
+        bytes: &[u8],
+        reply: &mut [u8],
+        marks: &mut [Mark],
+        memory: &mut [u8],
+    ) -> Taken
         ensures took { λ r. ⌜ tookAs (endOf E·Engine (now (self .exit))) (areas (now (reply .exit)) (now (marks .exit)) (now (memory .exit))) r ≡ took (now (bytes .entry)) (endOf E·Engine (now (self .entry))) (areas (now (reply .entry)) (now (marks .entry)) (now (memory .entry))) ⌝ }
         ensures law { λ r. ⌜ Keeps E·Engine (now (self .entry)) (now (self .exit)) (afterTake (takeSeen (now (bytes .entry)) r (now (reply .exit)))) ⌝ }
     {
@@ -100,7 +106,11 @@ impl<E: Engine> Printer<E> {
         ensures law { λ r. ⌜ ((run : Run) → Stands E·Engine run self → (E·Engine .bin r ≡ binBefore run ++ stackedBy run) × (E·Engine .path r ≡ pathAfter run)) ⌝ }
         ensures job { λ r. ⌜ ((run : Run) → Stands E·Engine run self → (J : List Page) → Proper J → Receiving J run → receivedBy run ≡ length J → E·Engine .bin r ++ owedBy run ≡ binBefore run ++ jobSheets J) ⌝ }
     {
-        let Printer { engine, spool: _, interpreter: _ } = self;
+        let Printer {
+            engine,
+            spool: _,
+            interpreter: _,
+        } = self;
         engine
     }
 }

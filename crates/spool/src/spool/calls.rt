@@ -142,10 +142,11 @@ impl Spool {
     pub fn jam(&mut self)
         ensures { λ _. ⌜ spoolOf (now (self .exit)) ≡ jam (spoolOf (now (self .entry))) ⌝ }
     {
+        let stacked = self.stacked;
         self.waiting = 0;
         self.fed = 0;
-        self.committed = self.stacked;
-        self.received = self.committed.pages;
+        self.committed = stacked;
+        self.received = stacked.pages;
     }
 
     // How many copies wait to be fed.

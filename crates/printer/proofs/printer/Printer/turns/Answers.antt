@@ -26,15 +26,17 @@ loop-again g c =
     let n = c .args .n in
     let i = c .loop .counter in
     let t = c .turn .ensures in
-    let e : n - i ≡ suc (n - (i + 1)) = omega arith in
-    (ap (turnedTimes (n - (i + 1)) (m .most)) (t .end) ∙ ap (λ k. turnedTimes k (m .most) (endOf m q)) (sym e) ∙ c .loop .inv .0, λ run s.
-        let h = c .loop .inv .1 run s in
-        let st : Stands m (h .0) q = h .1 .1 .0 in
-        let f = t .flow (h .0) st in
-        let r = c .turn .result in
-        let p = m .path (c .turn .last .self .engine) in
-        let next = afterTurn r p (h .0) in
-        (next, (subst (λ k. Turns k run next) (sym (add-one i)) (h .0, (h .1 .0, (r, (p, refl)))), (t .law (h .0) st, ap (turns (n - (i + 1)) (m .most)) f ∙ ap (λ k. turns k (m .most) (flowOf (viewOf (endOf m q)))) (sym e) ∙ h .1 .1 .1))))
+    let e : n - i ≡ suc (n - (i + 1)) = omega arith in (
+      ap (turnedTimes (n - (i + 1)) (m .most)) (t .end) ∙ ap (λ k. turnedTimes k (m .most) (endOf m q)) (sym e) ∙ c .loop .inv .0,
+      λ run s.
+          let h = c .loop .inv .1 run s in
+          let st : Stands m (h .0) q = h .1 .1 .0 in
+          let f = t .flow (h .0) st in
+          let r = c .turn .result in
+          let p = m .path (c .turn .last .self .engine) in
+          let next = afterTurn r p (h .0) in
+          (next, (subst (λ k. Turns k run next) (sym (add-one i)) (h .0, (h .1 .0, (r, (p, refl)))), (t .law (h .0) st, ap (turns (n - (i + 1)) (m .most)) f ∙ ap (λ k. turns k (m .most) (flowOf (viewOf (endOf m q)))) (sym e) ∙ h .1 .1 .1))),
+    )
 
 pub returns : need.returns
 returns g c =
