@@ -16,11 +16,14 @@ use std::alloc::AllocError;
 
 // The room of an engine: sheet records of a track, bytes of a file.
 const TRACK: u32 = 10_000_000;
+
 const FILE: u32 = 100_000_000;
 
 // The sizes of the areas.
 const REPLY: u32 = 64;
+
 const MARKS: u32 = 1000;
+
 const MEMORY: u32 = 65536;
 
 // The call of a line of one word.
@@ -121,7 +124,11 @@ fn with_words(word: &[u8], rest: &[u8], bytes: &mut Vec<u8>) -> Result<Option<Ca
     ensures { λ r. ⌜ elim r [ Ok call ↦ carrying call (vec-items (now (bytes .exit))) ≡ followed (now (word .entry)) (now (rest .entry)) | Err e ↦ Unit {0} ] ⌝ }
 {
     if same(word, b"take") {
-        Ok(if hex(rest, bytes)? { Some(Call::Take) } else { None })
+        Ok(if hex(rest, bytes)? {
+            Some(Call::Take)
+        } else {
+            None
+        })
     } else if same(word, b"poke") {
         poke(rest, bytes)
     } else {

@@ -19,9 +19,9 @@ add-n c = let s = small _ (c .loop-k .k) (c .loop-k .inv .1) (omega arith) in se
 
 pub loop-k-again : need.loop-k-again
 loop-k-again c =
-    rw (c .from .ensures)
-    ( went-on _ (c .loop-k .k) _ _ _ _ (c .loop-k-test .taken) (c .digit .ensures .value) (c .in-Some .is) (c .loop-k .inv .0)
-    , grows _ _ (c .loop-k .k) (c .loop-k .inv .1) (c .in-Some .ensures tt .bound)
+    rw (c .from .ensures) (
+      went-on _ (c .loop-k .k) _ _ _ _ (c .loop-k-test .taken) (c .digit .ensures .value) (c .in-Some .is) (c .loop-k .inv .0),
+      grows _ _ (c .loop-k .k) (c .loop-k .inv .1) (c .in-Some .ensures tt .bound),
     )
 
 pub returns : need.returns
