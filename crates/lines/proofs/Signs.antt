@@ -1,7 +1,7 @@
 -- A number after its sign.
 use mathlib.Core.Path.{_≡_, subst}
 use mathlib.Core.Bool.{true, false}
-use mathlib.Core.List.{List, [], _∷_, _++_}
+use mathlib.Core.List.{List, [], _∷_}
 use Prim.Native.Nat.{ℕ}
 use lib.IntN.{ℤ, pos, negsuc, natAbs}
 use lib.Signed.{ltZ}
@@ -11,17 +11,20 @@ use mir.Val.{SFits, toZ, ofZ}
 use Rattle.std.proofs.shelf.Signed.{ints, toZ-ofZ}
 use Rattle.std.specs.Written.{decimal, signed}
 use Rattle.std.specs.declared.result.Result.{Result}
+use Rattle.std.specs.declared.result.Result.the-variants.{Ok}
+use Rattle.std.specs.declared.vec.Vec.{Vec}
 use Rattle.lines.specs.Texts.{Adds}
-use Rattle.lines.proofs.Chains.{after, starts}
+use Rattle.lines.proofs.Chains.{after}
 
-pub minus : {T E : Type 0} (r : Result T E) (z : ℤ) (n : ℕ) (before mid end : List ℕ) → ltZ z (pos 0) ≡ true → n ≡ natAbs z → mid ≡ before ++ 45 ∷ [] → Adds r mid end (decimal n) → Adds r before end (signed z)
-minus r (pos m) n before mid end below e sign adds = absurd (grind (arith, ints))
-minus r (negsuc m) n before mid end below e sign adds = after (starts {before = before} {mid = mid} {a = 45 ∷ []} sign) (subst (λ (k : ℕ). Adds r mid end (decimal k)) e adds)
+-- a number's size, after its minus sign
+pub minus : {T E S F Z : Type 0} {x : S} {r : Result T E} {before mid end : Vec ℕ Z} (z : ℤ) (n : ℕ) → ltZ z (pos 0) ≡ true → n ≡ natAbs z → Adds {T = S} {E = F} (Ok x) before mid (45 ∷ []) → Adds r mid end (decimal n) → Adds r before end (signed z)
+minus (pos m) n below size sign adds = absurd (grind (arith, ints))
+minus {r = r} {mid = mid} {end = end} (negsuc m) n below size sign adds = after sign (subst (λ (k : ℕ). Adds r mid end (decimal k)) size adds)
 
-pub plus : {T E : Type 0} (r : Result T E) (z : ℤ) (n : ℕ) (before mid end : List ℕ) → ltZ z (pos 0) ≡ false → n ≡ natAbs z → mid ≡ before → Adds r mid end (decimal n) → Adds r before end (signed z)
-plus r (pos m) n before mid end above e same adds = subst (λ (k : ℕ). Adds r before end (decimal k)) e (subst (λ (l : List ℕ). Adds r l end (decimal n)) same adds)
-plus r (negsuc m) n before mid end above e same adds = absurd (grind (arith, ints))
+pub plus : {T E Z : Type 0} {r : Result T E} {before end : Vec ℕ Z} (z : ℤ) (n : ℕ) → ltZ z (pos 0) ≡ false → n ≡ natAbs z → Adds r before end (decimal n) → Adds r before end (signed z)
+plus {r = r} {before = before} {end = end} (pos m) n above size adds = subst (λ (k : ℕ). Adds r before end (decimal k)) size adds
+plus (negsuc m) n above size adds = absurd (grind (arith, ints))
 
 -- a signed number is passed by its bits
-pub as-passed : {T E : Type 0} {r : Result T E} {before end : List ℕ} (F : ℤ → List ℕ) (z : ℤ) → SFits w64 z → Adds r before end (F (toZ w64 (ofZ w64 z))) → Adds r before end (F z)
+pub as-passed : {T E Z : Type 0} {r : Result T E} {before end : Vec ℕ Z} (F : ℤ → List ℕ) (z : ℤ) → SFits w64 z → Adds r before end (F (toZ w64 (ofZ w64 z))) → Adds r before end (F z)
 as-passed F z fits adds = simp toZ-ofZ at adds

@@ -7,23 +7,25 @@
 --   pageText   a page's ID as eight hexadecimal digits
 --   spaced     bytes as hexadecimal digits after a space; nothing where there are none
 use mathlib.Core.Path.{_≡_}
-use mathlib.Core.Bool.{Bool, cond}
+use mathlib.Core.Bool.{Bool, true, false, cond}
 use mathlib.Core.List.{List, [], _∷_, _++_}
 use Prim.Native.Nat.{ℕ, _+_, _/_, _%_}
 use lib.Dec.{ltb}
-use mir.Val.{boolByte}
 use Rattle.std.specs.Written.{decimal}
 use Rattle.std.specs.declared.result.Result.{Result}
+use Rattle.std.specs.declared.vec.Vec.{Vec}
+use Rattle.std.specs.Of.Vec.{vec-items}
 use Rattle.std.specs.Vec.{made}
 
-pub record Adds {T E : Type 0} (r : Result T E) (before after text : List ℕ) : Type 0 where
-  pub adds : made r (λ x. after ≡ before ++ text)
+pub record Adds {T E Z : Type 0} (r : Result T E) (before after : Vec ℕ Z) (text : List ℕ) : Type 0 where
+  pub adds : made r (λ x. vec-items after ≡ vec-items before ++ text)
 
 abbrev pub field : List ℕ → ℕ → List ℕ
 field name n = name ++ decimal n
 
 abbrev pub flag : Bool → ℕ
-flag b = boolByte b
+flag false = 0
+flag true = 1
 
 abbrev pub hexDigit : ℕ → ℕ
 hexDigit d = cond (ltb d 10) (48 + d) (55 + d)

@@ -1,6 +1,5 @@
 // What a take, a mark, a jam and a malformed line answer.
 ghost use lib.Chars.{codes};
-ghost use Rattle.std.specs.Of.Vec.{vec-items};
 ghost use Rattle.lines.specs.Answers.{numberLine, takeLine, place, markLine};
 ghost use Rattle.lines.specs.Texts.{Adds};
 use crate::numbers::put_field;
@@ -16,7 +15,7 @@ pub fn take_line(
     reply: usize,
     marks: usize,
 ) -> Result<(), AllocError>
-    ensures { λ r. ⌜ Adds r (vec-items (now (out .entry))) (vec-items (now (out .exit))) (takeLine used number reply marks) ⌝ }
+    ensures { λ r. ⌜ Adds r (now (out .entry)) (now (out .exit)) (takeLine used number reply marks) ⌝ }
 {
     put_field(out, b"take used=", used as u64)?;
     put_field(out, b" number=", number as u64)?;
@@ -26,7 +25,7 @@ pub fn take_line(
 
 // Adds a space and a number that may be negative.
 fn put_place(out: &mut Vec<u8>, n: i64) -> Result<(), AllocError>
-    ensures { λ r. ⌜ Adds r (vec-items (now (out .entry))) (vec-items (now (out .exit))) (place n) ⌝ }
+    ensures { λ r. ⌜ Adds r (now (out .entry)) (now (out .exit)) (place n) ⌝ }
 {
     put_text(out, b" ")?;
     put_signed(out, n)
@@ -40,7 +39,7 @@ pub fn mark_line(
     first: i64,
     second: i64,
 ) -> Result<(), AllocError>
-    ensures { λ r. ⌜ Adds r (vec-items (now (out .entry))) (vec-items (now (out .exit))) (markLine kind i b first second) ⌝ }
+    ensures { λ r. ⌜ Adds r (now (out .entry)) (now (out .exit)) (markLine kind i b first second) ⌝ }
 {
     put_field(out, b"mark ", kind as u64)?;
     put_place(out, i)?;
@@ -51,14 +50,14 @@ pub fn mark_line(
 }
 
 pub fn jam_line(out: &mut Vec<u8>) -> Result<(), AllocError>
-    ensures { λ r. ⌜ Adds r (vec-items (now (out .entry))) (vec-items (now (out .exit))) (codes "jam\n") ⌝ }
+    ensures { λ r. ⌜ Adds r (now (out .entry)) (now (out .exit)) (codes "jam\n") ⌝ }
 {
     put_text(out, b"jam\n")
 }
 
 // The number of a malformed line, from 1.
 pub fn error_line(out: &mut Vec<u8>, number: u64) -> Result<(), AllocError>
-    ensures { λ r. ⌜ Adds r (vec-items (now (out .entry))) (vec-items (now (out .exit))) (numberLine (codes "error line ") number) ⌝ }
+    ensures { λ r. ⌜ Adds r (now (out .entry)) (now (out .exit)) (numberLine (codes "error line ") number) ⌝ }
 {
     put_number_line(out, b"error line ", number)
 }

@@ -1,6 +1,5 @@
 // Counts of pages, copies, sheets and marks.
 ghost use lib.Chars.{codes};
-ghost use Rattle.std.specs.Of.Vec.{vec-items};
 ghost use Rattle.lines.specs.Answers.{numberLine, countersLine};
 ghost use Rattle.lines.specs.Texts.{Adds};
 use crate::numbers::put_field;
@@ -14,7 +13,7 @@ pub fn counters_line(
     committed: (u64, u64),
     stacked: (u64, u64),
 ) -> Result<(), AllocError>
-    ensures { λ r. ⌜ Adds r (vec-items (now (out .entry))) (vec-items (now (out .exit))) (countersLine received (committed .0) (committed .1) (stacked .0) (stacked .1)) ⌝ }
+    ensures { λ r. ⌜ Adds r (now (out .entry)) (now (out .exit)) (countersLine received (committed .0) (committed .1) (stacked .0) (stacked .1)) ⌝ }
 {
     put_field(out, b"counters received=", received)?;
     put_field(out, b" committed=", committed.0)?;
@@ -24,31 +23,31 @@ pub fn counters_line(
 }
 
 pub fn owed_line(out: &mut Vec<u8>, owed: u64) -> Result<(), AllocError>
-    ensures { λ r. ⌜ Adds r (vec-items (now (out .entry))) (vec-items (now (out .exit))) (numberLine (codes "owed ") owed) ⌝ }
+    ensures { λ r. ⌜ Adds r (now (out .entry)) (now (out .exit)) (numberLine (codes "owed ") owed) ⌝ }
 {
     put_number_line(out, b"owed ", owed)
 }
 
 pub fn marks_line(out: &mut Vec<u8>, marks: usize) -> Result<(), AllocError>
-    ensures { λ r. ⌜ Adds r (vec-items (now (out .entry))) (vec-items (now (out .exit))) (numberLine (codes "marks ") marks) ⌝ }
+    ensures { λ r. ⌜ Adds r (now (out .entry)) (now (out .exit)) (numberLine (codes "marks ") marks) ⌝ }
 {
     put_number_line(out, b"marks ", marks as u64)
 }
 
 pub fn bin_line(out: &mut Vec<u8>, sheets: usize) -> Result<(), AllocError>
-    ensures { λ r. ⌜ Adds r (vec-items (now (out .entry))) (vec-items (now (out .exit))) (numberLine (codes "bin ") sheets) ⌝ }
+    ensures { λ r. ⌜ Adds r (now (out .entry)) (now (out .exit)) (numberLine (codes "bin ") sheets) ⌝ }
 {
     put_number_line(out, b"bin ", sheets as u64)
 }
 
 pub fn engine_track_line(out: &mut Vec<u8>, room: u32) -> Result<(), AllocError>
-    ensures { λ r. ⌜ Adds r (vec-items (now (out .entry))) (vec-items (now (out .exit))) (numberLine (codes "engine track ") room) ⌝ }
+    ensures { λ r. ⌜ Adds r (now (out .entry)) (now (out .exit)) (numberLine (codes "engine track ") room) ⌝ }
 {
     put_number_line(out, b"engine track ", room as u64)
 }
 
 pub fn engine_file_line(out: &mut Vec<u8>, room: u32) -> Result<(), AllocError>
-    ensures { λ r. ⌜ Adds r (vec-items (now (out .entry))) (vec-items (now (out .exit))) (numberLine (codes "engine file ") room) ⌝ }
+    ensures { λ r. ⌜ Adds r (now (out .entry)) (now (out .exit)) (numberLine (codes "engine file ") room) ⌝ }
 {
     put_number_line(out, b"engine file ", room as u64)
 }

@@ -1,20 +1,19 @@
 // Text, and numbers in decimal.
 ghost use mathlib.Core.Path.{_≡_};
-ghost use Rattle.std.specs.Of.Vec.{vec-items};
 ghost use Rattle.std.specs.Written.{decimal, signed};
 ghost use Rattle.lines.specs.Answers.{numberLine};
 ghost use Rattle.lines.specs.Texts.{Adds, field};
 use std::alloc::AllocError;
 
 pub fn put_text(out: &mut Vec<u8>, text: &[u8]) -> Result<(), AllocError>
-    ensures { λ r. ⌜ Adds r (vec-items (now (out .entry))) (vec-items (now (out .exit))) (now (text .entry)) ⌝ }
+    ensures { λ r. ⌜ Adds r (now (out .entry)) (now (out .exit)) (now (text .entry)) ⌝ }
 {
     out.extend_from_slice(text)
 }
 
 // Adds a number without leading zeros.
 pub fn put_number(out: &mut Vec<u8>, n: u64) -> Result<(), AllocError>
-    ensures { λ r. ⌜ Adds r (vec-items (now (out .entry))) (vec-items (now (out .exit))) (decimal n) ⌝ }
+    ensures { λ r. ⌜ Adds r (now (out .entry)) (now (out .exit)) (decimal n) ⌝ }
 {
     if n >= 10 {
         put_number(out, n / 10)?;
@@ -25,7 +24,7 @@ pub fn put_number(out: &mut Vec<u8>, n: u64) -> Result<(), AllocError>
 
 // Adds a number, after a minus sign where it is negative.
 pub fn put_signed(out: &mut Vec<u8>, n: i64) -> Result<(), AllocError>
-    ensures { λ r. ⌜ Adds r (vec-items (now (out .entry))) (vec-items (now (out .exit))) (signed n) ⌝ }
+    ensures { λ r. ⌜ Adds r (now (out .entry)) (now (out .exit)) (signed n) ⌝ }
 {
     if n < 0 {
         put_text(out, b"-")?;
@@ -35,7 +34,7 @@ pub fn put_signed(out: &mut Vec<u8>, n: i64) -> Result<(), AllocError>
 
 // Adds a name and the number that follows it.
 pub fn put_field(out: &mut Vec<u8>, name: &[u8], n: u64) -> Result<(), AllocError>
-    ensures { λ r. ⌜ Adds r (vec-items (now (out .entry))) (vec-items (now (out .exit))) (field (now (name .entry)) n) ⌝ }
+    ensures { λ r. ⌜ Adds r (now (out .entry)) (now (out .exit)) (field (now (name .entry)) n) ⌝ }
 {
     put_text(out, name)?;
     put_number(out, n)
@@ -43,7 +42,7 @@ pub fn put_field(out: &mut Vec<u8>, name: &[u8], n: u64) -> Result<(), AllocErro
 
 // Adds a name and a number to the end of a line.
 pub fn put_number_line(out: &mut Vec<u8>, name: &[u8], n: u64) -> Result<(), AllocError>
-    ensures { λ r. ⌜ Adds r (vec-items (now (out .entry))) (vec-items (now (out .exit))) (numberLine (now (name .entry)) n) ⌝ }
+    ensures { λ r. ⌜ Adds r (now (out .entry)) (now (out .exit)) (numberLine (now (name .entry)) n) ⌝ }
 {
     put_field(out, name, n)?;
     put_text(out, b"\n")

@@ -1,5 +1,4 @@
 // Sheets, and the turns that feed and stack them.
-ghost use Rattle.std.specs.Of.Vec.{vec-items};
 ghost use Rattle.lines.specs.Answers.{sheetText, sheetLine, stackedLine, pathEmptyLine, binFullLine};
 ghost use Rattle.lines.specs.Texts.{Adds};
 use crate::hex::put_page;
@@ -9,7 +8,7 @@ use crate::numbers::put_text;
 use std::alloc::AllocError;
 
 fn put_sheet(out: &mut Vec<u8>, page: u32, copy: u8, last: bool) -> Result<(), AllocError>
-    ensures { λ r. ⌜ Adds r (vec-items (now (out .entry))) (vec-items (now (out .exit))) (sheetText page copy last) ⌝ }
+    ensures { λ r. ⌜ Adds r (now (out .entry)) (now (out .exit)) (sheetText page copy last) ⌝ }
 {
     put_text(out, b"page=")?;
     put_page(out, page)?;
@@ -18,7 +17,7 @@ fn put_sheet(out: &mut Vec<u8>, page: u32, copy: u8, last: bool) -> Result<(), A
 }
 
 pub fn sheet_line(out: &mut Vec<u8>, page: u32, copy: u8, last: bool) -> Result<(), AllocError>
-    ensures { λ r. ⌜ Adds r (vec-items (now (out .entry))) (vec-items (now (out .exit))) (sheetLine page copy last) ⌝ }
+    ensures { λ r. ⌜ Adds r (now (out .entry)) (now (out .exit)) (sheetLine page copy last) ⌝ }
 {
     put_text(out, b"sheet ")?;
     put_sheet(out, page, copy, last)?;
@@ -33,7 +32,7 @@ pub fn stacked_line(
     last: bool,
     fed: bool,
 ) -> Result<(), AllocError>
-    ensures { λ r. ⌜ Adds r (vec-items (now (out .entry))) (vec-items (now (out .exit))) (stackedLine page copy last fed) ⌝ }
+    ensures { λ r. ⌜ Adds r (now (out .entry)) (now (out .exit)) (stackedLine page copy last fed) ⌝ }
 {
     put_text(out, b"turn stacked ")?;
     put_sheet(out, page, copy, last)?;
@@ -41,13 +40,13 @@ pub fn stacked_line(
 }
 
 pub fn path_empty_line(out: &mut Vec<u8>, fed: bool) -> Result<(), AllocError>
-    ensures { λ r. ⌜ Adds r (vec-items (now (out .entry))) (vec-items (now (out .exit))) (pathEmptyLine fed) ⌝ }
+    ensures { λ r. ⌜ Adds r (now (out .entry)) (now (out .exit)) (pathEmptyLine fed) ⌝ }
 {
     put_number_line(out, b"turn path-empty fed=", fed as u64)
 }
 
 pub fn bin_full_line(out: &mut Vec<u8>, fed: bool) -> Result<(), AllocError>
-    ensures { λ r. ⌜ Adds r (vec-items (now (out .entry))) (vec-items (now (out .exit))) (binFullLine fed) ⌝ }
+    ensures { λ r. ⌜ Adds r (now (out .entry)) (now (out .exit)) (binFullLine fed) ⌝ }
 {
     put_number_line(out, b"turn bin-full fed=", fed as u64)
 }
