@@ -1,8 +1,14 @@
 -- What a line of a script asks for.
+--   trackRoom, fileRoom, replySize, markPlaces, memorySize   the limits
 --   Said       a call with the bytes that it carries: none but for take and poke
+--   carrying   a call, where there is one, with its bytes
 --   bareOf     the call of a line of one word
---   numbered   the call of a line whose first word is followed by numbers
---   saidOf     what a line says, None where it is malformed
+--   engineOf, areasOf, memoryOf   the call of what follows the word of that name
+--   numbered   the call of a first word that numbers follow
+--   pokeOf     the call and the bytes of what follows poke
+--   followed   what a first word says with what follows it
+--   spoken     what a first word says, whether more follows it or not
+--   saidOf     what a line says: None where it is malformed
 use Prim.Native.Nat.{ℕ, _-_}
 use mathlib.Core.Bool.{Bool, cond}
 use mathlib.Core.List.{List, []}
@@ -16,6 +22,23 @@ use Rattle.script.specs.Numerals.{andThen, only, numberOf, upTo, bytesOf}
 use Rattle.script.specs.Words.{wordOf, restOf, skipped}
 use Rattle.script.specs.declared.call.Call.{Call}
 use Rattle.script.specs.declared.call.Call.the-variants.{Skip, EngineTrack, EngineFile, Areas, Take, Turn, Jam, Counters, Owed, Marks, Memory, Poke, ReplyArea, End}
+
+-- the most sheet records of a track, and the most bytes of a file
+abbrev pub trackRoom : ℕ
+trackRoom = 10000000
+
+abbrev pub fileRoom : ℕ
+fileRoom = 100000000
+
+-- the most that the areas hold
+abbrev pub replySize : ℕ
+replySize = 64
+
+abbrev pub markPlaces : ℕ
+markPlaces = 1000
+
+abbrev pub memorySize : ℕ
+memorySize = 65536
 
 pub record Said : Type 0 where
   pub call : Call
@@ -39,8 +62,8 @@ bareOf w =
 abbrev pub engineOf : List ℕ → Option Call
 engineOf r =
     andThen (restOf r) (λ room.
-    cond (sameBytes (wordOf r) (codes "track")) (andThen (upTo 10000000 room) (λ n. Some (EngineTrack n)))
-    (cond (sameBytes (wordOf r) (codes "file")) (andThen (upTo 100000000 room) (λ n. Some (EngineFile n)))
+    cond (sameBytes (wordOf r) (codes "track")) (andThen (upTo trackRoom room) (λ n. Some (EngineTrack n)))
+    (cond (sameBytes (wordOf r) (codes "file")) (andThen (upTo fileRoom room) (λ n. Some (EngineFile n)))
     None))
 
 -- the sizes of the reply area, the list of marks and the memory
@@ -48,24 +71,24 @@ abbrev pub areasOf : List ℕ → Option Call
 areasOf r =
     andThen (restOf r) (λ s.
     andThen (restOf s) (λ t.
-    andThen (upTo 64 (wordOf r)) (λ reply.
-    andThen (upTo 1000 (wordOf s)) (λ marks.
-    andThen (upTo 65536 t) (λ memory.
+    andThen (upTo replySize (wordOf r)) (λ reply.
+    andThen (upTo markPlaces (wordOf s)) (λ marks.
+    andThen (upTo memorySize t) (λ memory.
     Some (Areas reply marks memory))))))
 
 -- an address, and how many bytes from there on
 abbrev pub memoryOf : List ℕ → Option Call
 memoryOf r =
     andThen (restOf r) (λ s.
-    andThen (upTo 65536 (wordOf r)) (λ at.
-    andThen (upTo (65536 - at) s) (λ n.
+    andThen (upTo memorySize (wordOf r)) (λ at.
+    andThen (upTo (memorySize - at) s) (λ n.
     Some (Memory at n))))
 
 abbrev pub numbered : List ℕ → List ℕ → Option Call
 numbered w r =
     cond (sameBytes w (codes "turn")) (andThen (numberOf r) (λ n. Some (Turn n)))
     (cond (sameBytes w (codes "memory")) (memoryOf r)
-    (cond (sameBytes w (codes "reply-area")) (andThen (upTo 64 r) (λ n. Some (ReplyArea n)))
+    (cond (sameBytes w (codes "reply-area")) (andThen (upTo replySize r) (λ n. Some (ReplyArea n)))
     (cond (sameBytes w (codes "areas")) (areasOf r)
     (cond (sameBytes w (codes "engine")) (engineOf r)
     None))))
@@ -74,9 +97,9 @@ numbered w r =
 abbrev pub pokeOf : List ℕ → Option Said
 pokeOf r =
     andThen (restOf r) (λ s.
-    andThen (upTo 65536 (wordOf r)) (λ at.
+    andThen (upTo memorySize (wordOf r)) (λ at.
     andThen (bytesOf s) (λ bs.
-    only (leb (length bs) (65536 - at)) (record { call = Poke at; bytes = bs }))))
+    only (leb (length bs) (memorySize - at)) (record { call = Poke at; bytes = bs }))))
 
 -- what a first word says with what follows it
 abbrev pub followed : List ℕ → List ℕ → Option Said

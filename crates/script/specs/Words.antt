@@ -2,7 +2,6 @@
 --   wordOf    the letters before the first space: all of them where there is none
 --   restOf    what stands after the first space, where there is one
 --   skipped   whether a line says nothing: it is empty, or it begins with #
---   is        whether a word is the given one
 use Prim.Native.Nat.{ℕ}
 use mathlib.Core.Bool.{Bool, true, cond}
 use mathlib.Core.List.{List, [], _∷_}

@@ -1,10 +1,9 @@
 // Numbers and bytes that words write.
-ghost use mathlib.Core.Bool.{cond};
 ghost use mathlib.Core.Path.{_≡_};
 ghost use Prim.Native.Nat.{ℕ, _<_};
 ghost use Rattle.std.specs.Of.Vec.{vec-items};
+ghost use Rattle.std.specs.Vec.{made};
 ghost use Rattle.std.specs.declared.option.Option.the-variants.{Some, None};
-ghost use Rattle.std.specs.declared.result.Result.the-variants.{Ok, Err};
 ghost use Rattle.script.specs.Numerals.{only, digitOf, numberOf, upTo, nibbleOf, bytesOf};
 use std::alloc::AllocError;
 
@@ -36,7 +35,7 @@ fn nibble(b: u8) -> Option<u8>
 pub fn number(word: &[u8]) -> Option<u32>
     ensures { λ r. ⌜ r ≡ numberOf (now (word .entry)) ⌝ }
 {
-    if word.len() == 0 || word.len() > 9 {
+    if word.is_empty() || word.len() > 9 {
         return None;
     }
     let mut n = 0u32;
@@ -60,10 +59,10 @@ pub fn number_up_to(word: &[u8], limit: u32) -> Option<u32>
 // The bytes that a word of hexadecimal digits writes; they replace what out held.
 // False where the word writes none.
 pub fn hex(word: &[u8], out: &mut Vec<u8>) -> Result<bool, AllocError>
-    ensures { λ r. ⌜ elim r [ Ok good ↦ only good (vec-items (now (out .exit))) ≡ bytesOf (now (word .entry)) | Err e ↦ Unit {0} ] ⌝ }
+    ensures { λ r. ⌜ made r (λ good. only good (vec-items (now (out .exit))) ≡ bytesOf (now (word .entry))) ⌝ }
 {
     out.clear();
-    if word.len() == 0 {
+    if word.is_empty() {
         return Ok(false);
     }
     let mut rest = word;

@@ -3,7 +3,7 @@ ghost use mathlib.Core.List.{[]};
 ghost use mathlib.Core.Path.{_≡_};
 ghost use Prim.Native.Nat.{ℕ};
 ghost use Rattle.std.specs.Of.Vec.{vec-items};
-ghost use Rattle.std.specs.declared.result.Result.the-variants.{Ok, Err};
+ghost use Rattle.std.specs.Vec.{made};
 ghost use Rattle.script.specs.Calls.{carrying, bareOf, engineOf, areasOf, memoryOf, numbered, pokeOf, followed, saidOf};
 use crate::call::Call;
 use crate::digits::hex;
@@ -103,7 +103,7 @@ fn with_numbers(word: &[u8], rest: &[u8]) -> Option<Call>
 }
 
 fn poke(rest: &[u8], bytes: &mut Vec<u8>) -> Result<Option<Call>, AllocError>
-    ensures { λ r. ⌜ elim r [ Ok call ↦ carrying call (vec-items (now (bytes .exit))) ≡ pokeOf (now (rest .entry)) | Err e ↦ Unit {0} ] ⌝ }
+    ensures { λ r. ⌜ made r (λ call. carrying call (vec-items (now (bytes .exit))) ≡ pokeOf (now (rest .entry))) ⌝ }
 {
     let (at, Some(word)) = first_word(rest) else {
         return Ok(None);
@@ -121,7 +121,7 @@ fn poke(rest: &[u8], bytes: &mut Vec<u8>) -> Result<Option<Call>, AllocError>
 // The call of a first word that more follows; `bytes` holds nothing yet.
 fn with_words(word: &[u8], rest: &[u8], bytes: &mut Vec<u8>) -> Result<Option<Call>, AllocError>
     requires { ⌜ vec-items (now bytes) ≡ [] ⌝ }
-    ensures { λ r. ⌜ elim r [ Ok call ↦ carrying call (vec-items (now (bytes .exit))) ≡ followed (now (word .entry)) (now (rest .entry)) | Err e ↦ Unit {0} ] ⌝ }
+    ensures { λ r. ⌜ made r (λ call. carrying call (vec-items (now (bytes .exit))) ≡ followed (now (word .entry)) (now (rest .entry))) ⌝ }
 {
     if same(word, b"take") {
         Ok(if hex(rest, bytes)? {
@@ -139,7 +139,7 @@ fn with_words(word: &[u8], rest: &[u8], bytes: &mut Vec<u8>) -> Result<Option<Ca
 // The call of a line, which has lost its newline: None where it is malformed.
 // `bytes` then holds the bytes that the call carries, and nothing that it held before.
 pub fn parse(line: &[u8], bytes: &mut Vec<u8>) -> Result<Option<Call>, AllocError>
-    ensures { λ r. ⌜ elim r [ Ok call ↦ carrying call (vec-items (now (bytes .exit))) ≡ saidOf (now (line .entry)) | Err e ↦ Unit {0} ] ⌝ }
+    ensures { λ r. ⌜ made r (λ call. carrying call (vec-items (now (bytes .exit))) ≡ saidOf (now (line .entry))) ⌝ }
 {
     bytes.clear();
     if says_nothing(line) {
