@@ -31,3 +31,6 @@ pub use sheets::bin_full_line;
 pub use sheets::path_empty_line;
 pub use sheets::sheet_line;
 pub use sheets::stacked_line;
+
+#[cfg(test)]
+mod tests;

@@ -6,3 +6,6 @@ mod words;
 
 pub use call::Call;
 pub use parser::parse;
+
+#[cfg(test)]
+mod tests;
