@@ -33,7 +33,7 @@ pub fn put_page(out: &mut Vec<u8>, page: u32) -> Result<(), AllocError>
 pub fn put_spaced(out: &mut Vec<u8>, bytes: &[u8]) -> Result<(), AllocError>
     ensures { λ r. ⌜ Adds r (now (out .entry)) (now (out .exit)) (spaced (now (bytes .entry))) ⌝ }
 {
-    if bytes.len() == 0 {
+    if bytes.is_empty() {
         return Ok(());
     }
     put_text(out, b" ")?;
