@@ -16,7 +16,7 @@ fn hex_digit(d: u8) -> u8
 pub fn put_hex(out: &mut Vec<u8>, bytes: &[u8]) -> Result<(), AllocError>
     ensures { λ r. ⌜ Adds r (now (out .entry)) (now (out .exit)) (hexText (now (bytes .entry))) ⌝ }
 {
-    for (k, b) in bytes.iter().enumerate() {
+    for b in bytes {
         out.extend_from_slice(&[hex_digit(*b / 16), hex_digit(*b % 16)])?;
     }
     Ok(())

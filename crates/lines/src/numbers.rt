@@ -1,10 +1,10 @@
 // Text, and numbers in decimal.
-ghost use mathlib.Core.Path.{_≡_};
 ghost use Rattle.std.specs.Written.{decimal, signed};
 ghost use Rattle.lines.specs.Answers.{numberLine};
 ghost use Rattle.lines.specs.Texts.{Adds, field};
 use std::alloc::AllocError;
 
+// Adds text as it is.
 pub fn put_text(out: &mut Vec<u8>, text: &[u8]) -> Result<(), AllocError>
     ensures { λ r. ⌜ Adds r (now (out .entry)) (now (out .exit)) (now (text .entry)) ⌝ }
 {

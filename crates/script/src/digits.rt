@@ -1,6 +1,6 @@
 // Numbers and bytes that words write.
 ghost use mathlib.Core.Path.{_≡_};
-ghost use Prim.Native.Nat.{ℕ, _<_};
+ghost use Prim.Native.Nat.{_<_};
 ghost use Rattle.std.specs.Of.Vec.{vec-items};
 ghost use Rattle.std.specs.Vec.{made};
 ghost use Rattle.std.specs.declared.option.Option.the-variants.{Some, None};
@@ -39,7 +39,7 @@ pub fn number(word: &[u8]) -> Option<u32>
         return None;
     }
     let mut n = 0u32;
-    for (k, b) in word.iter().enumerate() {
+    for b in word {
         let Some(d) = digit(*b) else {
             return None;
         };

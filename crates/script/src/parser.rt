@@ -1,7 +1,6 @@
 // The call that a line writes.
 ghost use mathlib.Core.List.{[]};
 ghost use mathlib.Core.Path.{_≡_};
-ghost use Prim.Native.Nat.{ℕ};
 ghost use Rattle.std.specs.Of.Vec.{vec-items};
 ghost use Rattle.std.specs.Vec.{made};
 ghost use Rattle.script.specs.Calls.{carrying, bareOf, engineOf, areasOf, memoryOf, numbered, pokeOf, followed, saidOf};

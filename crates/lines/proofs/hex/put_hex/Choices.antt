@@ -5,5 +5,5 @@ use Rattle.std.specs.Of.Vec.{vec-items}
 use Rattle.lines.specs.Texts.{hexText}
 use Rattle.lines.proofs.hex.put_hex.Given as given
 
-abbrev pub Inv-loop-k : given.InvT-loop-k
-Inv-loop-k l = vec-items (l .out) ++ hexText (drop (l .k) (l .bytes)) ≡ vec-items (l .entry .out) ++ hexText (l .bytes)
+abbrev pub Inv-loop-b : given.InvT-loop-b
+Inv-loop-b l = vec-items (l .out) ++ hexText (drop (l .b-index) (l .bytes)) ≡ vec-items (l .entry .out) ++ hexText (l .bytes)

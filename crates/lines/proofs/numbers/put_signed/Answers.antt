@@ -1,4 +1,3 @@
-use mathlib.Core.Path.{sym, subst}
 use mir.Syntax.{w64}
 use mir.Val.{SFits}
 use Rattle.std.proofs.shelf.Signed.{toZ-ofZ}

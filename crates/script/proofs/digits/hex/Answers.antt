@@ -1,6 +1,5 @@
-use mathlib.Core.Path.{_≡_, sym, _∙_}
+use mathlib.Core.Path.{sym, _∙_}
 use borrow.Author.Needs.{needs}
-use native.Mathlib.Omega.{arith}
 use Rattle.script.proofs.Pairs.{paired, none-yet}
 use Rattle.script.proofs.digits.hex.Needs as need
 

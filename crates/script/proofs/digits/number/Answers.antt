@@ -1,30 +1,27 @@
-use mathlib.Core.Path.{_≡_, sym, _∙_, subst}
-use Prim.Native.Nat.{ℕ, _<_, _≤_}
 use native.Mathlib.Omega.{arith}
 use borrow.Author.Needs.{needs}
-use Rattle.script.specs.Numerals.{digitsFrom, numberOf}
 use Rattle.script.proofs.Numbers.{went-on, broke-off, ended, grows, small}
 use Rattle.script.proofs.digits.number.Needs as need
 
 pub returns-in-rest : need.returns-in-rest
 returns-in-rest c =
-    let e = broke-off _ (c .loop-k .k) _ _ _ (c .loop-k-test .taken) (c .digit .ensures .value) (c .in-rest .is) (c .loop-k .inv .0) in
+    let e = broke-off _ (c .loop-b .b-index) _ _ _ (c .loop-b-test .taken) (c .digit .ensures .value) (c .in-rest .is) (c .loop-b .inv .0) in
     search (needs, e)
 
 pub mul-n : need.mul-n
-mul-n c = let s = small _ (c .loop-k .k) (c .loop-k .inv .1) (omega arith) in omega (arith, s)
+mul-n c = let s = small _ (c .loop-b .b-index) (c .loop-b .inv .1) (omega arith) in omega (arith, s)
 
 pub add-n : need.add-n
-add-n c = let s = small _ (c .loop-k .k) (c .loop-k .inv .1) (omega arith) in search (needs, s)
+add-n c = let s = small _ (c .loop-b .b-index) (c .loop-b .inv .1) (omega arith) in search (needs, s)
 
-pub loop-k-again : need.loop-k-again
-loop-k-again c =
+pub loop-b-again : need.loop-b-again
+loop-b-again c =
     rw (c .from .ensures) (
-      went-on _ (c .loop-k .k) _ _ _ _ (c .loop-k-test .taken) (c .digit .ensures .value) (c .in-Some .is) (c .loop-k .inv .0),
-      grows _ _ (c .loop-k .k) (c .loop-k .inv .1) (c .in-Some .ensures tt .bound),
+      went-on _ (c .loop-b .b-index) _ _ _ _ (c .loop-b-test .taken) (c .digit .ensures .value) (c .in-Some .is) (c .loop-b .inv .0),
+      grows _ _ (c .loop-b .b-index) (c .loop-b .inv .1) (c .in-Some .ensures tt .bound),
     )
 
 pub returns : need.returns
 returns c =
-    let e = ended _ (c .loop-k .k) _ _ (omega arith) (c .loop-k .inv .0) in
+    let e = ended _ (c .loop-b .b-index) _ _ (omega arith) (c .loop-b .inv .0) in
     search (needs, e)
