@@ -64,6 +64,10 @@ fn print_register<E: Engine + Drop>(rt: &LibcRuntime, engine: E) -> io::Result<E
         let Some(page) = next_page(&REGISTER, reply) else {
             break;
         };
+        if reply.number > 0 {
+            let (id, copies, out) = (page.id, page.copies, reply.stacked_copies);
+            println!(rt, "host    goes on from these counters: of page {id:08X} {out} copies are stacked, {copies} are still to be made")?;
+        }
         session.open(rt, page)?;
         session.turn(rt)?;
         if sent == JAM_AT {
@@ -103,7 +107,21 @@ fn on_file(rt: &LibcRuntime) -> io::Result<()> {
     print_end(rt, complete && used == 8 * SHEETS)
 }
 
+// Tells what is to come.
+fn introduce(rt: &LibcRuntime) -> io::Result<()> {
+    println!(rt, "A register is to be printed, each page in its own number of copies:")?;
+    for page in &REGISTER {
+        let (id, copies) = (page.id, page.copies);
+        println!(rt, "  page {id:08X}, copies: {copies}")?;
+    }
+    println!(rt, "While the fifth page is being sent the paper jams, with copies half out and more pages waiting.")?;
+    println!(rt, "Lines of the host and replies of the printer show their bytes, and what they mean behind the bar.")?;
+    println!(rt, "Counters are pages received, then pages/copies committed (stacked or in the path), then pages/copies")?;
+    println!(rt, "stacked; the copies are those of the page after the complete ones.")
+}
+
 fn main(rt: LibcRuntime) -> io::Result<()> {
+    introduce(&rt)?;
     on_track(&rt)?;
     on_file(&rt)
 }

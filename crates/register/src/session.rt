@@ -41,8 +41,10 @@ impl<E: Engine + Drop> Session<E> {
         let taken = self.printer
             .take(bytes, &mut self.reply, &mut marks, &mut memory);
         let number = taken.outcome.number();
-        if number > 0 {
-            println!(rt, "printer refused with number {number}")?;
+        match number {
+            0 => {}
+            21 => note(rt, "printer", "discards it, since a negative reply waits to be fetched (number 21)")?,
+            _ => println!(rt, "printer refuses it with number {number}")?,
         }
         Ok(taken)
     }
@@ -70,10 +72,7 @@ impl<E: Engine + Drop> Session<E> {
             r.stacked_pages,
             r.stacked_copies,
         );
-        println!(
-            rt,
-            "        received {n} pages; committed {p} pages and {c} copies; stacked {q} pages and {d} copies"
-        )?;
+        println!(rt, "        counters: received {n}, committed {p}/{c}, stacked {q}/{d}")?;
         Ok(Some(r))
     }
 

@@ -1,0 +1,4 @@
+pub mod Pairs
+pub mod Chains
+pub mod Decimals
+pub mod Signs
