@@ -2,7 +2,7 @@
 ghost use mathlib.Core.Path.{_≡_};
 ghost use lib.ListN.{drop};
 ghost use Rattle.std.specs.declared.option.Option.the-variants.{Some, None};
-ghost use Rattle.command.specs.Headers.{headerOf, inRange, asksReply, plainFlag};
+ghost use Rattle.command.specs.Headers.{headerFrom, headerOf, inRange, asksReply, plainFlag};
 
 #[derive(Clone, Copy)]
 pub struct Header {
@@ -13,6 +13,17 @@ pub struct Header {
 }
 
 impl Header {
+    // Length, code and flag from their bytes.
+    fn of(length: [u8; 2], code: [u8; 2], flag: u8) -> Header
+        ensures { λ r. ⌜ r ≡ headerFrom length code flag ⌝ }
+    {
+        Header {
+            length: u16::from_be_bytes(length),
+            code: u16::from_be_bytes(code),
+            flag,
+        }
+    }
+
     // The header at the front of the bytes, and the bytes behind it.
     pub fn read(bytes: &[u8]) -> Option<(Header, &[u8])>
         ensures { λ r. ⌜ elim r [ None ↦ headerOf (now (bytes .entry)) ≡ None | Some p ↦ (headerOf (now (bytes .entry)) ≡ Some (p .0)) × (now (p .1) ≡ drop 5 (now (bytes .entry))) ] ⌝ }
@@ -20,11 +31,7 @@ impl Header {
         let [l0, l1, c0, c1, flag, rest @ ..] = bytes else {
             return None;
         };
-        let header = Header {
-            length: u16::from_be_bytes([*l0, *l1]),
-            code: u16::from_be_bytes([*c0, *c1]),
-            flag: *flag,
-        };
+        let header = Header::of([*l0, *l1], [*c0, *c1], *flag);
         Some((header, rest))
     }
 

@@ -1,6 +1,6 @@
 // The table of command codes, each with its data length and the states that allow it.
 ghost use mathlib.Core.Path.{_≡_};
-ghost use Rattle.command.specs.Tables.{rowIn, rowOf, fits, permits};
+ghost use Rattle.command.specs.Tables.{table, rowIn, rowOf, fits, permits};
 use crate::state::State;
 
 // Which command a code names.
@@ -113,9 +113,15 @@ fn find_in(rows: &[Row], code: u16) -> Option<Row>
     None
 }
 
+fn find_in_table(code: u16) -> Option<Row>
+    ensures { λ r. ⌜ r ≡ rowIn table code ⌝ }
+{
+    find_in(&TABLE, code)
+}
+
 // The row of a code.
 pub fn find(code: u16) -> Option<Row>
     ensures { λ r. ⌜ r ≡ rowOf code ⌝ }
 {
-    find_in(&TABLE, code)
+    find_in_table(code)
 }

@@ -9,9 +9,18 @@ use std::alloc::AllocError;
 use std::io;
 use std::io::Read;
 
-fn take<E: Engine, R: Read>(player: &mut Player<R>, printer: &mut Printer<E>, buffers: &mut Buffers) -> Result<(), AllocError> {
+fn take<E: Engine, R: Read>(
+    player: &mut Player<R>,
+    printer: &mut Printer<E>,
+    buffers: &mut Buffers,
+) -> Result<(), AllocError> {
     let taken = buffers.take(printer, &player.data);
-    let (used, number, size, marks) = (taken.used, taken.outcome.number(), taken.reply, taken.marks);
+    let (used, number, size, marks) = (
+        taken.used,
+        taken.outcome.number(),
+        taken.reply,
+        taken.marks,
+    );
     lines::take_line(&mut player.out, used, number, size, marks)?;
     if size > 0 {
         lines::reply_line(&mut player.out, buffers.reply(size))?;
@@ -29,7 +38,11 @@ fn turn<E: Engine>(out: &mut Vec<u8>, printer: &mut Printer<E>) -> Result<(), Al
 }
 
 // So many turns; their answers are written as they grow.
-fn turns<E: Engine, R: Read>(player: &mut Player<R>, printer: &mut Printer<E>, times: u32) -> io::Result<()> {
+fn turns<E: Engine, R: Read>(
+    player: &mut Player<R>,
+    printer: &mut Printer<E>,
+    times: u32,
+) -> io::Result<()> {
     for _ in 0..times {
         turn(&mut player.out, printer)?;
         if player.out.len() > 65536 {
@@ -50,12 +63,24 @@ fn marks(out: &mut Vec<u8>, buffers: &Buffers) -> Result<(), AllocError> {
     let placed = buffers.placed();
     lines::marks_line(out, placed.len())?;
     for m in placed {
-        lines::mark_line(out, m.kind as u32, m.i as i64, m.b as i64, m.first as i64, m.second as i64)?;
+        lines::mark_line(
+            out,
+            m.kind as u32,
+            m.i as i64,
+            m.b as i64,
+            m.first as i64,
+            m.second as i64,
+        )?;
     }
     Ok(())
 }
 
-pub fn perform<E: Engine, R: Read>(player: &mut Player<R>, printer: &mut Printer<E>, buffers: &mut Buffers, call: Call) -> io::Result<()> {
+pub fn perform<E: Engine, R: Read>(
+    player: &mut Player<R>,
+    printer: &mut Printer<E>,
+    buffers: &mut Buffers,
+    call: Call,
+) -> io::Result<()> {
     match call {
         Call::Take => take(player, printer, buffers)?,
         Call::Turn(times) => turns(player, printer, times)?,
@@ -70,12 +95,19 @@ pub fn perform<E: Engine, R: Read>(player: &mut Player<R>, printer: &mut Printer
             buffers.resize(reply, marks, memory);
             lines::areas_line(&mut player.out, reply, marks, memory)?;
         }
-        Call::Memory(at, size) => lines::memory_line(&mut player.out, at, buffers.memory(at, size))?,
+        Call::Memory(at, size) => lines::memory_line(
+            &mut player.out,
+            at,
+            buffers.memory(at, size),
+        )?,
         Call::Poke(at) => {
             buffers.poke(at, &player.data);
             lines::poke_line(&mut player.out, at)?;
         }
-        Call::ReplyArea(size) => lines::reply_area_line(&mut player.out, buffers.reply(size as usize))?,
+        Call::ReplyArea(size) => lines::reply_area_line(
+            &mut player.out,
+            buffers.reply(size as usize),
+        )?,
         Call::Skip | Call::EngineTrack(_) | Call::EngineFile(_) | Call::End => {}
     }
     Ok(())

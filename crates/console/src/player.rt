@@ -80,7 +80,10 @@ impl<R: Read> Player<R> {
 }
 
 // Plays calls to one printer end until the script ends it, and hands its engine back.
-pub fn session<E: Engine + Drop, R: Read>(player: &mut Player<R>, engine: E) -> io::Result<(E, Next)> {
+pub fn session<E: Engine + Drop, R: Read>(
+    player: &mut Player<R>,
+    engine: E,
+) -> io::Result<(E, Next)> {
     let mut printer = Printer::new(engine);
     let mut buffers = Buffers::new(player.heap)?;
     let mut next = Next::End;

@@ -4,6 +4,7 @@ use interpreter::Interpreter;
 use spool::Spool;
 
 mod calls;
+mod steps;
 
 #[derive(Drop)]
 pub struct Printer<E: Engine> {

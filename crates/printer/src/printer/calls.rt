@@ -11,8 +11,6 @@ ghost use Rattle.spool.specs.Jobs.{Page, Proper, jobSheets};
 ghost use Rattle.spool.specs.Spools.{numbersOf, told};
 ghost use Rattle.spool.specs.Views.{flowOf};
 use super::Printer;
-use crate::feeding::advance_once;
-use crate::feeding::feed_next;
 use engine::Engine;
 use interpreter::Interpreter;
 use interpreter::Taken;
@@ -47,7 +45,7 @@ impl<E: Engine> Printer<E> {
         ensures took { λ r. ⌜ tookAs (endOf E·Engine (now (self .exit))) (areas (now (reply .exit)) (now (marks .exit)) (now (memory .exit))) r ≡ took (now (bytes .entry)) (endOf E·Engine (now (self .entry))) (areas (now (reply .entry)) (now (marks .entry)) (now (memory .entry))) ⌝ }
         ensures law { λ r. ⌜ Keeps E·Engine (now (self .entry)) (now (self .exit)) (afterTake (takeSeen (now (bytes .entry)) r (now (reply .exit)))) ⌝ }
     {
-        self.interpreter.take(&mut self.spool, bytes, reply)
+        self.carry_out(bytes, reply)
     }
 
     // Advances the engine once, and then feeds the next copy where one waits and the path has a place.
@@ -58,9 +56,7 @@ impl<E: Engine> Printer<E> {
         ensures flow { λ _. ⌜ ((run : Run) → Stands E·Engine run (now (self .entry)) → flowOf (viewOf (endOf E·Engine (now (self .exit)))) ≡ turn (E·Engine .most) (flowOf (viewOf (endOf E·Engine (now (self .entry)))))) ⌝ }
         ensures law { λ r. ⌜ Keeps E·Engine (now (self .entry)) (now (self .exit)) (afterTurn r (E·Engine .path (now (self .exit) .engine))) ⌝ }
     {
-        let advanced = advance_once(&mut self.engine, &mut self.spool);
-        let fed = feed_next(&mut self.engine, &mut self.spool);
-        Turned { advanced, fed }
+        self.turn_once()
     }
 
     // So many turns in a row: one more than the sheets owed delivers these, where the bin can hold them.
@@ -79,8 +75,7 @@ impl<E: Engine> Printer<E> {
         ensures end { λ _. ⌜ endOf E·Engine (now (self .exit)) ≡ jammed (endOf E·Engine (now (self .entry))) ⌝ }
         ensures law { λ _. ⌜ Keeps E·Engine (now (self .entry)) (now (self .exit)) afterJam ⌝ }
     {
-        let _ = self.engine.purge();
-        self.interpreter.jam(&mut self.spool);
+        self.lose_paper();
     }
 
     // The five counters.
@@ -97,7 +92,8 @@ impl<E: Engine> Printer<E> {
         ensures most { λ r. ⌜ r ≤ 4088 ⌝ }
         ensures law { λ r. ⌜ Keeps E·Engine (now (self .entry)) (now (self .entry)) (afterOwed r) ⌝ }
     {
-        self.engine.path_count() + self.spool.unfed()
+        let (path, waiting) = self.count_owed();
+        path + waiting
     }
 
     // Ends the printer end and hands the engine back as it is.
@@ -106,11 +102,6 @@ impl<E: Engine> Printer<E> {
         ensures law { λ r. ⌜ ((run : Run) → Stands E·Engine run self → (E·Engine .bin r ≡ binBefore run ++ stackedBy run) × (E·Engine .path r ≡ pathAfter run)) ⌝ }
         ensures job { λ r. ⌜ ((run : Run) → Stands E·Engine run self → (J : List Page) → Proper J → Receiving J run → receivedBy run ≡ length J → E·Engine .bin r ++ owedBy run ≡ binBefore run ++ jobSheets J) ⌝ }
     {
-        let Printer {
-            engine,
-            spool: _,
-            interpreter: _,
-        } = self;
-        engine
+        self.release()
     }
 }

@@ -3,4 +3,4 @@ use Rattle.command.proofs.table.find.Needs as need
 
 pub returns : need.returns
 unfolding rowOf
-returns c = c .find-in .ensures
+returns c = c .find-in-table .ensures

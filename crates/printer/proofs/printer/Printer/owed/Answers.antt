@@ -1,4 +1,4 @@
-use mathlib.Core.Path.{_≡_, refl, sym, ap, _∙_}
+use mathlib.Core.Path.{_≡_}
 use native.Mathlib.Omega.{arith}
 use borrow.Author.Needs.{needs}
 use Prim.Native.Nat.{_+_, _^_, _<_, _≤_}
@@ -17,7 +17,7 @@ add-result g c =
     let sound = m .sound (c .args .self .now .engine) in
     let few : m .most ≤ 8 = sound .few in
     let short = sound .short in
-    let small : c .path-count .result + c .unfed .result < 2 ^ 64 = omega (arith, c .path-count .ensures, c .unfed .ensures .most) in
+    let small : c .count-owed-path .result .0 + c .count-owed-path .result .1 < 2 ^ 64 = omega (arith, c .count-owed-path .ensures .path, c .count-owed-path .ensures .few) in
     search needs
 
 pub returns : need.returns
@@ -28,9 +28,10 @@ returns g c =
     let few : m .most ≤ 8 = sound .few in
     let short = sound .short in
     let v = viewOf (endOf m p) in
-    let is : c .path-count .result + c .unfed .result ≡ owed (flowOf v) = omega (arith, c .path-count .ensures, c .unfed .ensures .sum, owed-is v) in
+    let q = c .count-owed-path .ensures in
+    let is : c .count-owed-path .result .0 + c .count-owed-path .result .1 ≡ owed (flowOf v) = omega (arith, q .path, q .waiting, owed-is v) in
     record {
       owed = is;
-      most = omega (arith, c .path-count .ensures, c .unfed .ensures .most);
+      most = omega (arith, q .path, q .few);
       law = λ run s. owed-law meaning (m .most) run (stationOf (endOf m p)) s _ is;
     }

@@ -24,23 +24,23 @@ ghost-self c =
     let s = c .args .self .now in
     let x = c .copy-of-first-sheet .result in
     let r = counted (c .in-Some .committed) in
-    let some : 0 < s .waiting = omega (arith, c .if-self-eq0 .left) in
-    let f = feeding s x r (c .add .last .slots) (c .copy-of-first-sheet .ensures) (c .in-Some .ensures tt) (c .add .ensures .slots) some (c .if-self-eq8 .left) in
+    let some : 0 < s .waiting = omega arith in
+    let f = feeding s x r (c .add .last .slots) (c .copy-of-first-sheet .ensures) (c .in-Some .ensures tt) (c .add .ensures .slots) some (λ e. omega arith) in
     let out = c .take-first .last .slots in
     let le : s .waiting ≤ length (s .pages) = omega (arith, s .short, s .slots) in
     let less = unfed-less (s .pages) out (s .waiting) (left-rest (s .pages) out (s .waiting) some le (c .take-first .ensures .slots)) (s .unfed) in
     let now = plus-is (counted (s .committed)) r x (c .in-Some .ensures tt) ∙ after-last (counted (s .committed)) x (c .if-sheet .taken) in
     let p : r .pages ≡ s .committed .pages .0 + 1 = ap (λ (t : Pair). t .pages) now in
     let z : r .copies ≡ 0 = ap (λ (t : Pair). t .copies) now in
-    (s .fits, (left-length (s .pages) out (s .waiting) some le (c .take-first .ensures .slots) ∙ s .slots, (omega (arith, s .short), (f .long, (omega (arith, s .within, c .if-self-eq8 .left), (omega (arith, s .paged), (less, ((λ h. omega (arith, less 0 h .1)), (f .few, (f .pages, (f .copies, (f .each, tt))))))))))))
+    (s .fits, (left-length (s .pages) out (s .waiting) some le (c .take-first .ensures .slots) ∙ s .slots, (omega (arith, s .short), (f .long, (omega (arith, s .within), (omega (arith, s .paged), (less, ((λ h. omega (arith, less 0 h .1)), (f .few, (f .pages, (f .copies, (f .each, tt))))))))))))
 
 pub ghost-self-else-sheet : need.ghost-self-else-sheet
 ghost-self-else-sheet c =
     let s = c .args .self .now in
     let x = c .copy-of-first-sheet .result in
     let r = counted (c .in-Some .committed) in
-    let some : 0 < s .waiting = omega (arith, c .if-self-eq0 .left) in
-    let f = feeding s x r (c .add .last .slots) (c .copy-of-first-sheet .ensures) (c .in-Some .ensures tt) (c .add .ensures .slots) some (c .if-self-eq8 .left) in
+    let some : 0 < s .waiting = omega arith in
+    let f = feeding s x r (c .add .last .slots) (c .copy-of-first-sheet .ensures) (c .in-Some .ensures tt) (c .add .ensures .slots) some (λ e. omega arith) in
     let now = plus-is (counted (s .committed)) r x (c .in-Some .ensures tt) ∙ after-other (counted (s .committed)) x (c .if-sheet .left) in
     let p : r .pages ≡ s .committed .pages .0 = ap (λ (t : Pair). t .pages) now in
     let z : r .copies ≡ s .committed .copies .0 + 1 = ap (λ (t : Pair). t .copies) now in
@@ -48,15 +48,15 @@ ghost-self-else-sheet c =
     let w = waitingPage (getD (s .pages) 0 (waitingPage 0 0) .page) (unfedAt (s .pages) 0 - 1) in
     let less : unfedAt (set (s .pages) 0 w) 0 ≡ unfedAt (s .pages) 0 - 1 = ap (λ (v : WaitingPage). v .unfed) (getD-set-same (s .pages) 0 w (waitingPage 0 0) (omega (arith, s .slots))) in
     let unfed = unfed-first (s .pages) (s .waiting) (getD (s .pages) 0 (waitingPage 0 0) .page) u (s .unfed) in
-    (s .fits, (length-set (s .pages) 0 w ∙ s .slots, (s .short, (f .long, (omega (arith, s .within, c .if-self-eq8 .left), (omega (arith, s .paged), (unfed, ((λ h. omega (arith, s .first h, s .unfed 0 h .0, z, less)), (f .few, (f .pages, (f .copies, (f .each, tt))))))))))))
+    (s .fits, (length-set (s .pages) 0 w ∙ s .slots, (s .short, (f .long, (omega (arith, s .within), (omega (arith, s .paged), (unfed, ((λ h. omega (arith, s .first h, s .unfed 0 h .0, z, less)), (f .few, (f .pages, (f .copies, (f .each, tt))))))))))))
 
 pub returns-then-sheet : need.returns-then-sheet
 returns-then-sheet c =
     let s = c .args .self .now in
     let x = c .copy-of-first-sheet .result in
     let r = counted (c .in-Some .committed) in
-    let some : 0 < s .waiting = omega (arith, c .if-self-eq0 .left) in
-    let f = feeding s x r (c .add .last .slots) (c .copy-of-first-sheet .ensures) (c .in-Some .ensures tt) (c .add .ensures .slots) some (c .if-self-eq8 .left) in
+    let some : 0 < s .waiting = omega arith in
+    let f = feeding s x r (c .add .last .slots) (c .copy-of-first-sheet .ensures) (c .in-Some .ensures tt) (c .add .ensures .slots) some (λ e. omega arith) in
     let out = c .take-first .last .slots in
     let le : s .waiting ≤ length (s .pages) = omega (arith, s .short, s .slots) in
     f .is (take (s .waiting - 1) out) ∙ commit-last (s .pages) out (s .waiting) (spoolOf s) some le refl (f .place) (left-rest (s .pages) out (s .waiting) some le (c .take-first .ensures .slots)) (sym (f .last) ∙ c .if-sheet .taken)
@@ -66,6 +66,6 @@ returns-else-sheet c =
     let s = c .args .self .now in
     let x = c .copy-of-first-sheet .result in
     let r = counted (c .in-Some .committed) in
-    let some : 0 < s .waiting = omega (arith, c .if-self-eq0 .left) in
-    let f = feeding s x r (c .add .last .slots) (c .copy-of-first-sheet .ensures) (c .in-Some .ensures tt) (c .add .ensures .slots) some (c .if-self-eq8 .left) in
+    let some : 0 < s .waiting = omega arith in
+    let f = feeding s x r (c .add .last .slots) (c .copy-of-first-sheet .ensures) (c .in-Some .ensures tt) (c .add .ensures .slots) some (λ e. omega arith) in
     f .is _ ∙ commit-more (s .pages) (s .waiting) (spoolOf s) some (omega (arith, s .short, s .slots)) refl (f .place) (sym (f .last) ∙ c .if-sheet .left)

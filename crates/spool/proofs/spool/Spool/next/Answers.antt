@@ -16,4 +16,4 @@ pub returns : need.returns
 returns c =
     let s = c .args .self .now in
     let h = fed-is s in
-    ap Some (c .copy-of-first .ensures) ∙ next-is (s .pages) (s .waiting) (counted (s .committed)) (omega (arith, c .if-self-eq0 .left)) (omega (arith, s .slots)) ∙ ap (λ b. cond b (nextAt (take (s .waiting) (s .pages)) (counted (s .committed))) None) (sym (free-yes (spoolOf s) (omega (arith, s .within, c .if-self-eq8 .left))))
+    ap Some (c .copy-of-first .ensures) ∙ next-is (s .pages) (s .waiting) (counted (s .committed)) (omega arith) (omega (arith, s .slots)) ∙ ap (λ b. cond b (nextAt (take (s .waiting) (s .pages)) (counted (s .committed))) None) (sym (free-yes (spoolOf s) (omega (arith, s .within))))

@@ -20,7 +20,7 @@ returns-in-rest c =
     let s = c .args .self .now in
     let x = getD (s .path) 0 (sheet 0 0 false) in
     let le : s .fed ≤ length (s .path) = omega (arith, s .places, s .within) in
-    let some : 0 < s .fed = omega (arith, c .if-self-eq0 .left) in
+    let some : 0 < s .fed = omega arith in
     absurd (both-ways _ (plus-fits (counted (s .stacked)) x (c .in-rest .ensures tt)) (stack-fits s x _ (first-and-rest (s .path) (s .fed) (sheet 0 0 false) some le)))
 
 pub ghost-self : need.ghost-self
@@ -29,7 +29,7 @@ ghost-self c =
     let x = getD (s .path) 0 (sheet 0 0 false) in
     let n = c .take-first .last .slots in
     let le : s .fed ≤ length (s .path) = omega (arith, s .places, s .within) in
-    let some : 0 < s .fed = omega (arith, c .if-self-eq0 .left) in
+    let some : 0 < s .fed = omega arith in
     let er = plus-is (counted (s .stacked)) (counted (c .in-Some .stacked)) x (c .in-Some .ensures tt) in
     let is = left-first (s .path) n (s .fed) some le (c .take-first .ensures .slots) (sheet 0 0 false) in
     let tie = pop-tied (counted (s .stacked)) (counted (c .in-Some .stacked)) (s .path) n (s .fed) (sheet 0 0 false) er is in
@@ -41,5 +41,5 @@ returns c =
     let s = c .args .self .now in
     let x = getD (s .path) 0 (sheet 0 0 false) in
     let le : s .fed ≤ length (s .path) = omega (arith, s .places, s .within) in
-    let some : 0 < s .fed = omega (arith, c .if-self-eq0 .left) in
+    let some : 0 < s .fed = omega arith in
     pop-whole (spoolOf s) x _ (counted (c .in-Some .stacked)) (plus-is (counted (s .stacked)) (counted (c .in-Some .stacked)) x (c .in-Some .ensures tt)) (left-first (s .path) (c .take-first .last .slots) (s .fed) some le (c .take-first .ensures .slots) (sheet 0 0 false))
