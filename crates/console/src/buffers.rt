@@ -20,7 +20,7 @@ pub struct Buffers {
 
 impl Buffers {
     // All zero, and handed out whole.
-    pub fn new(heap: Global) -> Result<Buffers, AllocError> {
+    pub(crate) fn new(heap: Global) -> Result<Buffers, AllocError> {
         let blank = Mark {
             kind: 0,
             i: 0,
@@ -39,13 +39,13 @@ impl Buffers {
         })
     }
 
-    pub fn resize(&mut self, reply: u32, marks: u32, memory: u32) {
+    pub(crate) fn resize(&mut self, reply: u32, marks: u32, memory: u32) {
         self.reply_size = reply as usize;
         self.marks_size = marks as usize;
         self.memory_size = memory as usize;
     }
 
-    pub fn take<E: Engine>(&mut self, printer: &mut Printer<E>, bytes: &[u8]) -> Taken {
+    pub(crate) fn take<E: Engine>(&mut self, printer: &mut Printer<E>, bytes: &[u8]) -> Taken {
         let reply = self.reply_size.min(self.reply.len());
         let marks = self.marks_size.min(self.marks.len());
         let memory = self.memory_size.min(self.memory.len());
@@ -60,23 +60,23 @@ impl Buffers {
     }
 
     // The marks of the open or latest page.
-    pub fn placed(&self) -> &[Mark] {
+    pub(crate) fn placed(&self) -> &[Mark] {
         let n = self.placed.min(self.marks.len());
         &self.marks[0..n]
     }
 
-    pub fn reply(&self, size: usize) -> &[u8] {
+    pub(crate) fn reply(&self, size: usize) -> &[u8] {
         let n = size.min(self.reply.len());
         &self.reply[0..n]
     }
 
-    pub fn memory(&self, at: u32, size: u32) -> &[u8] {
+    pub(crate) fn memory(&self, at: u32, size: u32) -> &[u8] {
         let start = (at as usize).min(self.memory.len());
         let end = start.saturating_add(size as usize).min(self.memory.len());
         &self.memory[start..end]
     }
 
-    pub fn poke(&mut self, at: u32, bytes: &[u8]) {
+    pub(crate) fn poke(&mut self, at: u32, bytes: &[u8]) {
         for (k, b) in bytes.iter().enumerate() {
             let i = (at as usize).saturating_add(k);
             if i < self.memory.len() {

@@ -75,7 +75,7 @@ fn marks(out: &mut Vec<u8>, buffers: &Buffers) -> Result<(), AllocError> {
     Ok(())
 }
 
-pub fn perform<E: Engine, R: Read>(
+pub(crate) fn perform<E: Engine, R: Read>(
     player: &mut Player<R>,
     printer: &mut Printer<E>,
     buffers: &mut Buffers,

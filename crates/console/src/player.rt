@@ -39,7 +39,7 @@ pub enum Next {
 }
 
 impl<R: Read> Player<R> {
-    pub fn new(rt: &LibcRuntime, input: R) -> Player<R> {
+    pub(crate) fn new(rt: &LibcRuntime, input: R) -> Player<R> {
         Player {
             input: BufReader::new(input),
             stdout: rt.stdout(),
@@ -51,7 +51,7 @@ impl<R: Read> Player<R> {
         }
     }
 
-    pub fn flush(&mut self) -> io::Result<()> {
+    pub(crate) fn flush(&mut self) -> io::Result<()> {
         self.stdout.write_all(&self.out)?;
         self.out.clear();
         Ok(())
@@ -73,14 +73,14 @@ impl<R: Read> Player<R> {
         Ok(Some(parse(&self.line, &mut self.data)?))
     }
 
-    pub fn wrong(&mut self) -> io::Result<()> {
+    pub(crate) fn wrong(&mut self) -> io::Result<()> {
         lines::error_line(&mut self.out, self.number)?;
         Ok(())
     }
 }
 
 // Plays calls to one printer end until the script ends it, and hands its engine back.
-pub fn session<E: Engine + Drop, R: Read>(
+pub(crate) fn session<E: Engine + Drop, R: Read>(
     player: &mut Player<R>,
     engine: E,
 ) -> io::Result<(E, Next)> {
@@ -110,7 +110,7 @@ pub fn session<E: Engine + Drop, R: Read>(
 }
 
 // With no printer end only an engine line can be played.
-pub fn skip_to_engine<R: Read>(player: &mut Player<R>) -> io::Result<Next> {
+pub(crate) fn skip_to_engine<R: Read>(player: &mut Player<R>) -> io::Result<Next> {
     for _ in 0..u64::MAX {
         match player.next_call()? {
             None => break,

@@ -4,12 +4,12 @@ use std::alloc::Global;
 use std::fmt::Write;
 use std::io;
 
-pub fn heading(rt: &LibcRuntime, text: &str) -> io::Result<()> {
+pub(crate) fn heading(rt: &LibcRuntime, text: &str) -> io::Result<()> {
     println!(rt, "== {text} ==")
 }
 
 // Bytes in hexadecimal, two digits each.
-pub fn hex(heap: Global, bytes: &[u8]) -> Result<String, AllocError> {
+pub(crate) fn hex(heap: Global, bytes: &[u8]) -> Result<String, AllocError> {
     let mut text = String::new(heap);
     for b in bytes {
         let _ = write!(text, "{b:02X} ");
@@ -18,12 +18,12 @@ pub fn hex(heap: Global, bytes: &[u8]) -> Result<String, AllocError> {
 }
 
 // Who, the bytes, and what they mean.
-pub fn line(rt: &LibcRuntime, who: &str, bytes: &[u8], meaning: &str) -> io::Result<()> {
+pub(crate) fn line(rt: &LibcRuntime, who: &str, bytes: &[u8], meaning: &str) -> io::Result<()> {
     let text = hex(rt.alloc(), bytes)?;
     println!(rt, "{who:7} {text}| {meaning}")
 }
 
 // Who, and what happened.
-pub fn note(rt: &LibcRuntime, who: &str, what: &str) -> io::Result<()> {
+pub(crate) fn note(rt: &LibcRuntime, who: &str, what: &str) -> io::Result<()> {
     println!(rt, "{who:7} {what}")
 }

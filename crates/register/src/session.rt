@@ -21,14 +21,14 @@ pub struct Session<E: Engine> {
 }
 
 impl<E: Engine + Drop> Session<E> {
-    pub fn new(engine: E) -> Session<E> {
+    pub(crate) fn new(engine: E) -> Session<E> {
         Session {
             printer: Printer::new(engine),
             reply: [0; 40],
         }
     }
 
-    pub fn into_engine(self) -> E {
+    pub(crate) fn into_engine(self) -> E {
         let Session { printer, reply: _ } = self;
         printer.into_engine()
     }
@@ -84,13 +84,13 @@ impl<E: Engine + Drop> Session<E> {
     }
 
     // Asks for the counters.
-    pub fn ask(&mut self, rt: &LibcRuntime) -> io::Result<Option<Reply>> {
+    pub(crate) fn ask(&mut self, rt: &LibcRuntime) -> io::Result<Option<Reply>> {
         let taken = self.send(rt, &no_operation(), "No Operation, with a reply requested")?;
         self.told(rt, taken)
     }
 
     // Opens a page for so many copies.
-    pub fn open(&mut self, rt: &LibcRuntime, page: Page) -> io::Result<()> {
+    pub(crate) fn open(&mut self, rt: &LibcRuntime, page: Page) -> io::Result<()> {
         let (id, copies) = (page.id, page.copies);
         let text = format!(rt.alloc(), "Load Copy Control: {copies} copies from now on")?;
         let _ = self.send(rt, &load_copy_control(copies), text.as_str())?;
@@ -100,13 +100,13 @@ impl<E: Engine + Drop> Session<E> {
     }
 
     // Ends the page and reads the reply; the one before counts on where there is none.
-    pub fn close(&mut self, rt: &LibcRuntime, before: Reply) -> io::Result<Reply> {
+    pub(crate) fn close(&mut self, rt: &LibcRuntime, before: Reply) -> io::Result<Reply> {
         let taken = self.send(rt, &end_page(), "End Page, with a reply requested")?;
         Ok(self.told(rt, taken)?.unwrap_or(before))
     }
 
     // One turn of the engine.
-    pub fn turn(&mut self, rt: &LibcRuntime) -> io::Result<()> {
+    pub(crate) fn turn(&mut self, rt: &LibcRuntime) -> io::Result<()> {
         let turned = self.printer.turn();
         let fed = if turned.fed {
             "the next copy goes into the path"
@@ -126,7 +126,7 @@ impl<E: Engine + Drop> Session<E> {
         }
     }
 
-    pub fn jam(&mut self, rt: &LibcRuntime) -> io::Result<()> {
+    pub(crate) fn jam(&mut self, rt: &LibcRuntime) -> io::Result<()> {
         let owed = self.printer.owed();
         note(
             rt,
@@ -142,7 +142,7 @@ impl<E: Engine + Drop> Session<E> {
     }
 
     // Turns until nothing is owed.
-    pub fn finish(&mut self, rt: &LibcRuntime) -> io::Result<()> {
+    pub(crate) fn finish(&mut self, rt: &LibcRuntime) -> io::Result<()> {
         let owed = self.printer.owed();
         println!(
             rt,

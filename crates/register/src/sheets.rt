@@ -31,7 +31,7 @@ fn is_wanted(register: &[Page], at: usize, sheet: &Sheet) -> bool {
 }
 
 // Prints the stacked sheets and tells whether they are those of the register, in order.
-pub fn print_sheets(
+pub(crate) fn print_sheets(
     rt: &LibcRuntime,
     register: &[Page],
     list: &[Sheet],
@@ -57,7 +57,7 @@ fn is_record(register: &[Page], at: usize, bytes: &[u8]) -> bool {
 }
 
 // Prints the used bytes, a record a line, and tells whether they are the register's records, in order.
-pub fn print_records(
+pub(crate) fn print_records(
     rt: &LibcRuntime,
     register: &[Page],
     bytes: &[u8],
@@ -73,7 +73,7 @@ pub fn print_records(
     Ok(right)
 }
 
-pub fn print_end(rt: &LibcRuntime, complete: bool) -> io::Result<()> {
+pub(crate) fn print_end(rt: &LibcRuntime, complete: bool) -> io::Result<()> {
     if complete {
         println!(
             rt,
