@@ -25,10 +25,6 @@ tied s =
     let t = onward (counted (s .stacked)) (take (s .fed) (s .path)) in
     ap (λ p. pair p (s .committed .copies .0)) (s .whole) ∙ ap (λ c. pair (t .pages) c) (s .part)
 
-pub few-none : (t : Pair) (m : List Sheet) → t .copies ≤ 254 → (k : ℕ) → k ≤ 0 → onward t (take k m) .copies ≤ 254
-few-none t m h zero le = h
-few-none t m h (suc k) le = absurd (omega arith)
-
 pub stacked-most : (s : Spool) → s .stacked .pages .0 ≤ 65535
 stacked-most s = omega (arith, s .whole, s .paged, s .fits, onward-pages (counted (s .stacked)) (take (s .fed) (s .path)))
 

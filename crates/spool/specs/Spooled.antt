@@ -49,8 +49,12 @@ abbrev pub unfedIn : List WaitingPage → ℕ
 unfedIn [] = 0
 unfedIn (w ∷ ws) = w .unfed + unfedIn ws
 
+-- nothing waits and nothing is in the path
+abbrev pub idle : Pair → Spooled
+idle t = spooled [] (t .pages) t t []
+
 abbrev pub empty : Spooled
-empty = spooled [] 0 (pair 0 0) (pair 0 0) []
+empty = idle (pair 0 0)
 
 abbrev pub nextSheet : Pair → WaitingPage → Sheet
 nextSheet t w = sheet (w .page) (t .copies + 1) (eqb (w .unfed) 1)
@@ -109,4 +113,4 @@ discard b = spooled [] (b .committed .pages) (b .committed) (b .stacked) (b .pat
 
 -- what is committed then is what is stacked
 abbrev pub jam : Spooled → Spooled
-jam b = spooled [] (b .stacked .pages) (b .stacked) (b .stacked) []
+jam b = idle (b .stacked)

@@ -2,7 +2,7 @@ ghost use mathlib.Core.Path.{_≡_};
 ghost use Prim.Native.Nat.{ℕ, _<_, _≤_};
 ghost use lib.ListN.{getD};
 ghost use Rattle.engine.specs.Tallies.{counted};
-ghost use Rattle.spool.specs.Spooled.{empty, waitingPage, nextSheet, nextOf, commit, stack, Receives, discard, jam, unfedIn, full};
+ghost use Rattle.spool.specs.Spooled.{empty, idle, waitingPage, nextSheet, nextOf, commit, stack, Receives, discard, jam, unfedIn, full};
 ghost use Rattle.spool.specs.Spools.{spoolOf, numbersOf, told};
 use super::Spool;
 use crate::copies::Copies;
@@ -15,8 +15,10 @@ use engine::Sheet;
 use engine::Tally;
 
 impl Spool {
-    pub fn new() -> Spool
-        ensures { λ r. ⌜ spoolOf r ≡ empty ⌝ }
+    // Nothing waits and nothing is in the path; so much is stacked.
+    fn at(stacked: Tally) -> Spool
+        requires { ⌜ stacked .pages .0 ≤ 65535 ⌝ ∗ ⌜ stacked .copies .0 ≤ 254 ⌝ }
+        ensures { λ r. ⌜ spoolOf r ≡ idle (counted stacked) ⌝ }
     {
         let blank = Sheet {
             page: 0,
@@ -24,14 +26,20 @@ impl Spool {
             last: false,
         };
         Spool {
-            received: PageCount(0),
-            committed: Tally::none(),
-            stacked: Tally::none(),
+            received: stacked.pages,
+            committed: stacked,
+            stacked,
             pages: [WaitingPage { page: 0, unfed: 0 }; 16],
             waiting: 0,
             path: [blank; 8],
             fed: 0,
         }
+    }
+
+    pub fn new() -> Spool
+        ensures { λ r. ⌜ spoolOf r ≡ empty ⌝ }
+    {
+        Spool::at(Tally::none())
     }
 
     // Whether sixteen pages wait, so that another cannot.
@@ -142,11 +150,7 @@ impl Spool {
     pub fn jam(&mut self)
         ensures { λ _. ⌜ spoolOf (now (self .exit)) ≡ jam (spoolOf (now (self .entry))) ⌝ }
     {
-        let stacked = self.stacked;
-        self.waiting = 0;
-        self.fed = 0;
-        self.committed = stacked;
-        self.received = stacked.pages;
+        *self = Spool::at(self.stacked);
     }
 
     // How many copies wait to be fed.
