@@ -89,13 +89,16 @@ abbrev pub performed : Result Command Refusal → Machine → Result Machine Ref
 performed (Ok c) m = perform c m
 performed (Err r) m = Err r
 
+-- decoded for the state that it meets, and performed
 abbrev pub interpreted : Header → List ℕ → Machine → Result Machine Refusal
 interpreted h d m = performed (decoded (m .state) h d) m
 
+-- a command whose length is right: first a pending reply, then a page that cannot wait, then the command itself
 abbrev pub whole : Option Fault → Header → List ℕ → Machine → List ℕ → Taking
 whole (Some f) h d m area = handed f h m area
 whole None h d m area = cond (blocked h m) (untouched SixteenWait m area) (settled (interpreted h d m) h m area)
 
+-- the grounds that come before the command is known to be whole
 abbrev pub headed : Option Header → List ℕ → Machine → List ℕ → Taking
 headed None bs m area = untouched Incomplete m area
 headed (Some h) bs m area =
