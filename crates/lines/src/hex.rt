@@ -1,41 +1,54 @@
 // Bytes as hexadecimal digits in upper case.
 ghost use mathlib.Core.Path.{_≡_};
 ghost use Prim.Native.Nat.{_<_};
-ghost use Rattle.lines.specs.Texts.{Adds, hexDigit, hexText, pageText, spaced};
-use crate::numbers::put_text;
+ghost use Rattle.std.specs.Of.String.{string-bytes};
+ghost use Rattle.std.specs.Vec.{made};
+ghost use Rattle.lines.specs.Texts.{hexDigit, thenByte, hexText, pageText, spaced};
 use std::alloc::AllocError;
+use std::alloc::Global;
 
-fn hex_digit(d: u8) -> u8
+fn hex_digit(d: u8) -> char
     requires { ⌜ d < 16 ⌝ }
-    ensures { λ r. ⌜ r ≡ hexDigit d ⌝ }
+    ensures value { λ r. ⌜ r ≡ hexDigit d ⌝ }
+    ensures ascii { λ r. ⌜ r < 128 ⌝ }
 {
-    if d < 10 { b'0' + d } else { b'A' + (d - 10) }
+    char::from(if d < 10 { b'0' + d } else { b'A' + (d - 10) })
 }
 
-// Adds two digits for each byte.
-pub fn put_hex(out: &mut Vec<u8>, bytes: &[u8]) -> Result<(), AllocError>
-    ensures { λ r. ⌜ Adds r (now (out .entry)) (now (out .exit)) (hexText (now (bytes .entry))) ⌝ }
+// Adds two digits.
+fn put_byte(text: &mut String, b: u8) -> Result<(), AllocError>
+    ensures { λ r. ⌜ made r (λ _. string-bytes (now (text .exit)) ≡ thenByte (string-bytes (now (text .entry))) b) ⌝ }
 {
-    for b in bytes {
-        out.extend_from_slice(&[hex_digit(*b / 16), hex_digit(*b % 16)])?;
-    }
+    text.push(hex_digit(b / 16))?;
+    text.push(hex_digit(b % 16))?;
     Ok(())
 }
 
-// Adds a page's ID as eight digits.
-pub fn put_page(out: &mut Vec<u8>, page: u32) -> Result<(), AllocError>
-    ensures { λ r. ⌜ Adds r (now (out .entry)) (now (out .exit)) (pageText page) ⌝ }
+// Two digits for each byte.
+pub fn hex(heap: Global, bytes: &[u8]) -> Result<String, AllocError>
+    ensures { λ r. ⌜ made r (λ s. string-bytes s ≡ hexText (now (bytes .entry))) ⌝ }
 {
-    put_hex(out, &page.to_be_bytes())
+    let mut text = String::new(heap);
+    for b in bytes {
+        put_byte(&mut text, *b)?;
+    }
+    Ok(text)
 }
 
-// Adds a space and the bytes; nothing where there are none, so that no line ends in a space.
-pub fn put_spaced(out: &mut Vec<u8>, bytes: &[u8]) -> Result<(), AllocError>
-    ensures { λ r. ⌜ Adds r (now (out .entry)) (now (out .exit)) (spaced (now (bytes .entry))) ⌝ }
+// The same after a space; nothing where there are no bytes, so that no line ends in a space.
+pub fn spaced_hex(heap: Global, bytes: &[u8]) -> Result<String, AllocError>
+    ensures { λ r. ⌜ made r (λ s. string-bytes s ≡ spaced (now (bytes .entry))) ⌝ }
 {
-    if bytes.is_empty() {
-        return Ok(());
+    if bytes.len() == 0 {
+        return Ok(String::new(heap));
     }
-    put_text(out, b" ")?;
-    put_hex(out, bytes)
+    let digits = hex(heap, bytes)?;
+    format!(heap, " {digits}")
+}
+
+// A page's ID.
+pub fn page_hex(heap: Global, page: u32) -> Result<String, AllocError>
+    ensures { λ r. ⌜ made r (λ s. string-bytes s ≡ pageText page) ⌝ }
+{
+    hex(heap, &page.to_be_bytes())
 }

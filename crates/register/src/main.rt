@@ -66,7 +66,10 @@ fn print_register<E: Engine + Drop>(rt: &LibcRuntime, engine: E) -> io::Result<E
         };
         if reply.number > 0 {
             let (id, copies, out) = (page.id, page.copies, reply.stacked_copies);
-            println!(rt, "host    goes on from these counters: of page {id:08X} {out} copies are stacked, {copies} are still to be made")?;
+            println!(
+                rt,
+                "host    goes on from these counters: of page {id:08X} {out} copies are stacked, {copies} are still to be made"
+            )?;
         }
         session.open(rt, page)?;
         session.turn(rt)?;
@@ -109,15 +112,30 @@ fn on_file(rt: &LibcRuntime) -> io::Result<()> {
 
 // Tells what is to come.
 fn introduce(rt: &LibcRuntime) -> io::Result<()> {
-    println!(rt, "A register is to be printed, each page in its own number of copies:")?;
+    println!(
+        rt,
+        "A register is to be printed, each page in its own number of copies:"
+    )?;
     for page in &REGISTER {
         let (id, copies) = (page.id, page.copies);
         println!(rt, "  page {id:08X}, copies: {copies}")?;
     }
-    println!(rt, "While the fifth page is being sent the paper jams, with copies half out and more pages waiting.")?;
-    println!(rt, "Lines of the host and replies of the printer show their bytes, and what they mean behind the bar.")?;
-    println!(rt, "Counters are pages received, then pages/copies committed (stacked or in the path), then pages/copies")?;
-    println!(rt, "stacked; the copies are those of the page after the complete ones.")
+    println!(
+        rt,
+        "While the fifth page is being sent the paper jams, with copies half out and more pages waiting."
+    )?;
+    println!(
+        rt,
+        "Lines of the host and replies of the printer show their bytes, and what they mean behind the bar."
+    )?;
+    println!(
+        rt,
+        "Counters are pages received, then pages/copies committed (stacked or in the path), then pages/copies"
+    )?;
+    println!(
+        rt,
+        "stacked; the copies are those of the page after the complete ones."
+    )
 }
 
 fn main(rt: LibcRuntime) -> io::Result<()> {

@@ -43,7 +43,11 @@ impl<E: Engine + Drop> Session<E> {
         let number = taken.outcome.number();
         match number {
             0 => {}
-            21 => note(rt, "printer", "discards it, since a negative reply waits to be fetched (number 21)")?,
+            21 => note(
+                rt,
+                "printer",
+                "discards it, since a negative reply waits to be fetched (number 21)",
+            )?,
             _ => println!(rt, "printer refuses it with number {number}")?,
         }
         Ok(taken)
@@ -72,7 +76,10 @@ impl<E: Engine + Drop> Session<E> {
             r.stacked_pages,
             r.stacked_copies,
         );
-        println!(rt, "        counters: received {n}, committed {p}/{c}, stacked {q}/{d}")?;
+        println!(
+            rt,
+            "        counters: received {n}, committed {p}/{c}, stacked {q}/{d}"
+        )?;
         Ok(Some(r))
     }
 
