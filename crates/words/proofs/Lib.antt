@@ -1,4 +1,4 @@
 pub mod Numbers
 pub mod Pairs
 pub mod Spaces
-pub mod Same
+pub mod Comparing

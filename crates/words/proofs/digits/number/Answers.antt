@@ -1,7 +1,7 @@
 use native.Mathlib.Omega.{arith}
 use borrow.Author.Needs.{needs}
-use Rattle.script.proofs.Numbers.{went-on, broke-off, ended, grows, small}
-use Rattle.script.proofs.digits.number.Needs as need
+use Rattle.words.proofs.Numbers.{went-on, broke-off, ended, grows, small}
+use Rattle.words.proofs.digits.number.Needs as need
 
 pub returns-in-rest : need.returns-in-rest
 returns-in-rest c =

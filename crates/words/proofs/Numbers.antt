@@ -9,7 +9,7 @@ use lib.ListN.{length, getD, drop}
 use Rattle.std.specs.declared.option.Option.{Option}
 use Rattle.std.specs.declared.option.Option.the-variants.{Some, None}
 use Rattle.std.proofs.shelf.Lists.{at-drop-more, at-drop-all}
-use Rattle.script.specs.Numerals.{andThen, digitOf, digitsFrom}
+use Rattle.words.specs.Numerals.{andThen, digitOf, digitsFrom}
 
 abbrev next : ℕ → List ℕ → Option ℕ → Option ℕ
 next n bs o = andThen o (λ d. digitsFrom (n * 10 + d) bs)

@@ -7,7 +7,7 @@ use lib.ListN.{length, getD, drop, take}
 use Rattle.std.specs.declared.option.Option.{Option}
 use Rattle.std.specs.declared.option.Option.the-variants.{Some, None}
 use Rattle.std.proofs.shelf.Lists.{take-all}
-use Rattle.script.specs.Numerals.{andThen, nibbleOf, hexOf}
+use Rattle.words.specs.Numerals.{andThen, nibbleOf, hexOf}
 
 -- bytes after those that are there
 abbrev pub hexAfter : List ℕ → Option (List ℕ) → Option (List ℕ)

@@ -1,8 +1,15 @@
 // The words of a line.
+ghost use lib.Dec.{eqb};
 ghost use mathlib.Core.Path.{_≡_};
 ghost use Rattle.std.specs.declared.option.Option.the-variants.{Some, None};
 ghost use Rattle.std.specs.shelf.Text.{sameBytes};
-ghost use Rattle.script.specs.Words.{wordOf, restOf, skipped};
+ghost use Rattle.words.specs.Words.{wordOf, restOf, skipped};
+
+fn is_space(b: u8) -> bool
+    ensures { λ r. ⌜ r ≡ eqb b 32 ⌝ }
+{
+    b == b' '
+}
 
 // The letters before the first space, and what stands after that space.
 pub fn first_word(line: &[u8]) -> (&[u8], Option<&[u8]>)
@@ -10,7 +17,7 @@ pub fn first_word(line: &[u8]) -> (&[u8], Option<&[u8]>)
     ensures rest { λ r. ⌜ elim (r .1) [ Some rest ↦ restOf (now (line .entry)) ≡ Some (now rest) | None ↦ restOf (now (line .entry)) ≡ None ] ⌝ }
 {
     for (i, b) in line.iter().enumerate() {
-        if *b == b' ' {
+        if is_space(*b) {
             return (&line[0..i], Some(&line[i + 1..]));
         }
     }

@@ -8,7 +8,7 @@ use lib.ListN.{length, getD, drop, take}
 use Rattle.std.specs.declared.option.Option.{Option}
 use Rattle.std.specs.declared.option.Option.the-variants.{Some, None}
 use Rattle.std.proofs.shelf.Lists.{at-drop-more, at-drop-all, take-more, take-all}
-use Rattle.script.specs.Words.{wordOf, restOf}
+use Rattle.words.specs.Words.{wordOf, restOf}
 
 -- where the first i letters are no space
 pub record Passed (w : List ℕ) (i : ℕ) : Type 0 where

@@ -1,7 +1,7 @@
 use mathlib.Core.Path.{sym, _∙_}
 use borrow.Author.Needs.{needs}
-use Rattle.script.proofs.Pairs.{paired, none-yet}
-use Rattle.script.proofs.digits.hex.Needs as need
+use Rattle.words.proofs.Pairs.{paired, none-yet}
+use Rattle.words.proofs.digits.hex.Needs as need
 
 pub loop-rest-again : need.loop-rest-again
 loop-rest-again c =

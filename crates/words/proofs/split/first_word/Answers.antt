@@ -1,20 +1,20 @@
+use mathlib.Core.Path.{sym, _∙_}
 use native.Mathlib.Nat.{sub-zero}
 use native.Mathlib.Omega.{arith}
 use Rattle.std.proofs.shelf.Lists.{take-rest}
-use Rattle.std.proofs.shelf.Tests.{eq-eqb, ne-eqb}
-use Rattle.script.proofs.Spaces.{passed-more, word-at-space, rest-at-space, word-at-end, rest-at-end}
-use Rattle.script.proofs.words.first_word.Needs as need
+use Rattle.words.proofs.Spaces.{passed-more, word-at-space, rest-at-space, word-at-end, rest-at-end}
+use Rattle.words.proofs.split.first_word.Needs as need
 
-pub returns-then-b-eq32 : need.returns-then-b-eq32
-returns-then-b-eq32 c =
-    let space = eq-eqb _ _ (c .if-b-eq32 .taken) in
+pub returns-then-is-space : need.returns-then-is-space
+returns-then-is-space c =
+    let space = sym (c .is-space .ensures) ∙ c .if-is-space .taken in
     record {
       word = rw sub-zero (word-at-space _ (c .loop-i .i) (c .loop-i-test .taken) space (c .loop-i .inv));
       rest = rw take-rest (rest-at-space _ (c .loop-i .i) (c .loop-i-test .taken) space (c .loop-i .inv));
     }
 
 pub loop-i-again : need.loop-i-again
-loop-i-again c = passed-more _ (c .loop-i .i) (c .loop-i-test .taken) (ne-eqb _ _ (c .if-b-eq32 .left)) (c .loop-i .inv)
+loop-i-again c = passed-more _ (c .loop-i .i) (c .loop-i-test .taken) (sym (c .is-space .ensures) ∙ c .if-is-space .left) (c .loop-i .inv)
 
 pub returns : need.returns
 returns c =

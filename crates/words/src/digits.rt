@@ -4,7 +4,7 @@ ghost use Prim.Native.Nat.{_<_};
 ghost use Rattle.std.specs.Of.Vec.{vec-items};
 ghost use Rattle.std.specs.Vec.{made};
 ghost use Rattle.std.specs.declared.option.Option.the-variants.{Some, None};
-ghost use Rattle.script.specs.Numerals.{only, digitOf, numberOf, upTo, nibbleOf, bytesOf};
+ghost use Rattle.words.specs.Numerals.{only, digitOf, numberOf, upTo, nibbleOf, bytesOf};
 use std::alloc::AllocError;
 
 // The value of a decimal digit.
