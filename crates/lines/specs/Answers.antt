@@ -7,21 +7,22 @@
 --   markLine       a mark: its kind, its place, and its two numbers
 --   areasLine      the sizes of the areas
 --   memoryLine     bytes of the memory: their address, how many they are, and what they are
+--   flagText       a yes as 1, a no as 0
 --   sheetLine      a sheet, between words: its page, its copy, and whether that copy is the page's last
-use mathlib.Core.Bool.{Bool}
+use mathlib.Core.Bool.{Bool, cond}
 use mathlib.Core.List.{List, _∷_, _++_}
 use Prim.Native.Nat.{ℕ}
 use lib.Chars.{codes}
 use lib.IntN.{ℤ}
 use lib.ListN.{length}
 use Rattle.std.specs.Written.{decimal, signed}
-use Rattle.lines.specs.Texts.{flagText, pageText, spaced}
+use Rattle.hex.specs.Hex.{pageText, spacedHex}
 
 abbrev pub numberLine : List ℕ → ℕ → List ℕ
 numberLine name n = name ++ (decimal n ++ codes "\n")
 
 abbrev pub hexLine : List ℕ → List ℕ → List ℕ
-hexLine name bytes = name ++ (spaced bytes ++ codes "\n")
+hexLine name bytes = name ++ (spacedHex bytes ++ codes "\n")
 
 abbrev pub takeLine : ℕ → ℕ → ℕ → ℕ → List ℕ
 takeLine used number reply marks =
@@ -61,6 +62,9 @@ areasLine reply marks memory =
 
 abbrev pub memoryLine : ℕ → List ℕ → List ℕ
 memoryLine at bytes = hexLine (codes "memory " ++ (decimal at ++ (codes " " ++ decimal (length bytes)))) bytes
+
+abbrev pub flagText : Bool → List ℕ
+flagText b = cond b (codes "1") (codes "0")
 
 abbrev pub sheetLine : List ℕ → ℕ → ℕ → Bool → List ℕ → List ℕ
 sheetLine name page copy last end =

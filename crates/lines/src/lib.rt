@@ -1,6 +1,5 @@
 // The lines that answer a script, each made with its newline.
 mod answers;
-mod hex;
 mod plain;
 mod sheets;
 

@@ -3,7 +3,6 @@ ghost use mathlib.Core.Path.{_≡_};
 ghost use Rattle.std.specs.Of.String.{string-bytes};
 ghost use Rattle.std.specs.Vec.{made};
 ghost use Rattle.lines.specs.Answers.{numberLine, hexLine, memoryLine};
-use crate::hex::spaced_hex;
 use std::alloc::AllocError;
 use std::alloc::Global;
 
@@ -16,7 +15,7 @@ pub fn number_line(heap: Global, name: &str, n: u64) -> Result<String, AllocErro
 pub fn hex_line(heap: Global, name: &str, bytes: &[u8]) -> Result<String, AllocError>
     ensures { λ r. ⌜ made r (λ s. string-bytes s ≡ hexLine (now (name .entry)) (now (bytes .entry))) ⌝ }
 {
-    let digits = spaced_hex(heap, bytes)?;
+    let digits = hex::spaced(heap, bytes)?;
     format!(heap, "{name}{digits}\n")
 }
 

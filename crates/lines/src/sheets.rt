@@ -2,9 +2,7 @@
 ghost use mathlib.Core.Path.{_≡_};
 ghost use Rattle.std.specs.Of.String.{string-bytes};
 ghost use Rattle.std.specs.Vec.{made};
-ghost use Rattle.lines.specs.Answers.{sheetLine};
-ghost use Rattle.lines.specs.Texts.{flagText};
-use crate::hex::page_hex;
+ghost use Rattle.lines.specs.Answers.{flagText, sheetLine};
 use std::alloc::AllocError;
 use std::alloc::Global;
 
@@ -30,7 +28,7 @@ pub fn sheet_line(
 ) -> Result<String, AllocError>
     ensures { λ r. ⌜ made r (λ s. string-bytes s ≡ sheetLine (now (name .entry)) page copy last (now (end .entry))) ⌝ }
 {
-    let page = page_hex(heap, page)?;
+    let page = hex::page(heap, page)?;
     let last = flag(heap, last)?;
     format!(heap, "{name}page={page} copy={copy} last={last}{end}\n")
 }

@@ -3,7 +3,7 @@ ghost use mathlib.Core.Path.{_≡_};
 ghost use Prim.Native.Nat.{_<_};
 ghost use Rattle.std.specs.Of.String.{string-bytes};
 ghost use Rattle.std.specs.Vec.{made};
-ghost use Rattle.lines.specs.Texts.{hexDigit, thenByte, hexText, pageText, spaced};
+ghost use Rattle.hex.specs.Hex.{hexDigit, thenByte, hexText, pageText, spacedHex};
 use std::alloc::AllocError;
 use std::alloc::Global;
 
@@ -25,30 +25,30 @@ fn put_byte(text: &mut String, b: u8) -> Result<(), AllocError>
 }
 
 // Two digits for each byte.
-pub fn hex(heap: Global, bytes: &[u8]) -> Result<String, AllocError>
+pub fn text(heap: Global, bytes: &[u8]) -> Result<String, AllocError>
     ensures { λ r. ⌜ made r (λ s. string-bytes s ≡ hexText (now (bytes .entry))) ⌝ }
 {
-    let mut text = String::new(heap);
+    let mut digits = String::new(heap);
     for b in bytes {
-        put_byte(&mut text, *b)?;
+        put_byte(&mut digits, *b)?;
     }
-    Ok(text)
+    Ok(digits)
 }
 
 // The same after a space; nothing where there are no bytes, so that no line ends in a space.
-pub fn spaced_hex(heap: Global, bytes: &[u8]) -> Result<String, AllocError>
-    ensures { λ r. ⌜ made r (λ s. string-bytes s ≡ spaced (now (bytes .entry))) ⌝ }
+pub fn spaced(heap: Global, bytes: &[u8]) -> Result<String, AllocError>
+    ensures { λ r. ⌜ made r (λ s. string-bytes s ≡ spacedHex (now (bytes .entry))) ⌝ }
 {
     if bytes.len() == 0 {
         return Ok(String::new(heap));
     }
-    let digits = hex(heap, bytes)?;
+    let digits = text(heap, bytes)?;
     format!(heap, " {digits}")
 }
 
 // A page's ID.
-pub fn page_hex(heap: Global, page: u32) -> Result<String, AllocError>
-    ensures { λ r. ⌜ made r (λ s. string-bytes s ≡ pageText page) ⌝ }
+pub fn page(heap: Global, id: u32) -> Result<String, AllocError>
+    ensures { λ r. ⌜ made r (λ s. string-bytes s ≡ pageText id) ⌝ }
 {
-    hex(heap, &page.to_be_bytes())
+    text(heap, &id.to_be_bytes())
 }

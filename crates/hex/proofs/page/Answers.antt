@@ -1,6 +1,6 @@
 use borrow.Author.Needs.{needs}
-use Rattle.lines.specs.Texts.{pageText}
-use Rattle.lines.proofs.hex.page_hex.Needs as need
+use Rattle.hex.specs.Hex.{pageText}
+use Rattle.hex.proofs.page.Needs as need
 
 pub returns : need.returns
 unfolding pageText
