@@ -5,7 +5,6 @@ use engine::Advanced;
 use engine::Engine;
 use printer::Printer;
 use script::Call;
-use std::alloc::AllocError;
 use std::io;
 use std::io::Read;
 
@@ -13,27 +12,40 @@ fn take<E: Engine, R: Read>(
     player: &mut Player<R>,
     printer: &mut Printer<E>,
     buffers: &mut Buffers,
-) -> Result<(), AllocError> {
+) -> io::Result<()> {
     let taken = buffers.take(printer, &player.data);
-    let (used, number, size, marks) = (
+    let size = taken.reply;
+    let line = lines::take_line(
+        player.heap,
         taken.used,
         taken.outcome.number(),
-        taken.reply,
+        size,
         taken.marks,
-    );
-    lines::take_line(&mut player.out, used, number, size, marks)?;
+    )?;
+    player.say(&line)?;
     if size > 0 {
-        lines::reply_line(&mut player.out, buffers.reply(size))?;
+        player.say_bytes("reply", buffers.reply(size))?;
     }
     Ok(())
 }
 
-fn turn<E: Engine>(out: &mut Vec<u8>, printer: &mut Printer<E>) -> Result<(), AllocError> {
+fn turn<E: Engine, R: Read>(player: &mut Player<R>, printer: &mut Printer<E>) -> io::Result<()> {
     let turned = printer.turn();
     match turned.advanced {
-        Advanced::Stacked(s) => lines::stacked_line(out, s.page, s.copy, s.last, turned.fed),
-        Advanced::PathEmpty => lines::path_empty_line(out, turned.fed),
-        Advanced::BinFull => lines::bin_full_line(out, turned.fed),
+        Advanced::Stacked(s) => {
+            let end = if turned.fed { " fed=1" } else { " fed=0" };
+            let line = lines::sheet_line(
+                player.heap,
+                "turn stacked ",
+                s.page,
+                s.copy,
+                s.last,
+                end,
+            )?;
+            player.say(&line)
+        }
+        Advanced::PathEmpty => player.say_number("turn path-empty fed=", turned.fed as u64),
+        Advanced::BinFull => player.say_number("turn bin-full fed=", turned.fed as u64),
     }
 }
 
@@ -44,33 +56,33 @@ fn turns<E: Engine, R: Read>(
     times: u32,
 ) -> io::Result<()> {
     for _ in 0..times {
-        turn(&mut player.out, printer)?;
-        if player.out.len() > 65536 {
-            player.flush()?;
-        }
+        turn(player, printer)?;
+        player.flush_much()?;
     }
     Ok(())
 }
 
-fn counters<E: Engine>(out: &mut Vec<u8>, printer: &Printer<E>) -> Result<(), AllocError> {
+fn counters<E: Engine, R: Read>(player: &mut Player<R>, printer: &Printer<E>) -> io::Result<()> {
     let c = printer.counters();
     let committed = (c.committed.pages.0 as u64, c.committed.copies.0 as u64);
     let stacked = (c.stacked.pages.0 as u64, c.stacked.copies.0 as u64);
-    lines::counters_line(out, c.received.0 as u64, committed, stacked)
+    let line = lines::counters_line(player.heap, c.received.0 as u64, committed, stacked)?;
+    player.say(&line)
 }
 
-fn marks(out: &mut Vec<u8>, buffers: &Buffers) -> Result<(), AllocError> {
+fn marks<R: Read>(player: &mut Player<R>, buffers: &Buffers) -> io::Result<()> {
     let placed = buffers.placed();
-    lines::marks_line(out, placed.len())?;
+    player.say_number("marks ", placed.len() as u64)?;
     for m in placed {
-        lines::mark_line(
-            out,
+        let line = lines::mark_line(
+            player.heap,
             m.kind as u32,
             m.i as i64,
             m.b as i64,
             m.first as i64,
             m.second as i64,
         )?;
+        player.say(&line)?;
     }
     Ok(())
 }
@@ -86,28 +98,25 @@ pub(crate) fn perform<E: Engine, R: Read>(
         Call::Turn(times) => turns(player, printer, times)?,
         Call::Jam => {
             printer.jam();
-            lines::jam_line(&mut player.out)?;
+            player.say("jam\n")?;
         }
-        Call::Counters => counters(&mut player.out, printer)?,
-        Call::Owed => lines::owed_line(&mut player.out, printer.owed() as u64)?,
-        Call::Marks => marks(&mut player.out, buffers)?,
+        Call::Counters => counters(player, printer)?,
+        Call::Owed => player.say_number("owed ", printer.owed() as u64)?,
+        Call::Marks => marks(player, buffers)?,
         Call::Areas(reply, marks, memory) => {
             buffers.resize(reply, marks, memory);
-            lines::areas_line(&mut player.out, reply, marks, memory)?;
+            let line = lines::areas_line(player.heap, reply, marks, memory)?;
+            player.say(&line)?;
         }
-        Call::Memory(at, size) => lines::memory_line(
-            &mut player.out,
-            at,
-            buffers.memory(at, size),
-        )?,
+        Call::Memory(at, size) => {
+            let line = lines::memory_line(player.heap, at, buffers.memory(at, size))?;
+            player.say(&line)?;
+        }
         Call::Poke(at) => {
             buffers.poke(at, &player.data);
-            lines::poke_line(&mut player.out, at)?;
+            player.say_number("poke ", at as u64)?;
         }
-        Call::ReplyArea(size) => lines::reply_area_line(
-            &mut player.out,
-            buffers.reply(size as usize),
-        )?,
+        Call::ReplyArea(size) => player.say_bytes("reply-area", buffers.reply(size as usize))?,
         Call::Skip | Call::EngineTrack(_) | Call::EngineFile(_) | Call::End => {}
     }
     Ok(())

@@ -12,7 +12,6 @@ use player::Next;
 use player::Player;
 use player::session;
 use player::skip_to_engine;
-use std::alloc::AllocError;
 use std::env;
 use std::fs::File;
 use std::io;
@@ -21,25 +20,33 @@ use std::rt::Env;
 use std::rt::Files;
 
 // What the track engine stacked, a sheet a line.
-fn end_track(out: &mut Vec<u8>, engine: TrackEngine) -> Result<(), AllocError> {
+fn end_track<R: Read>(player: &mut Player<R>, engine: TrackEngine) -> io::Result<()> {
     let (list, stacked) = engine.into_list();
-    lines::bin_line(out, stacked)?;
+    player.say_number("bin ", stacked as u64)?;
     for sheet in list.iter().take(stacked) {
-        lines::sheet_line(out, sheet.page, sheet.copy, sheet.last)?;
+        let line = lines::sheet_line(
+            player.heap,
+            "sheet ",
+            sheet.page,
+            sheet.copy,
+            sheet.last,
+            "",
+        )?;
+        player.say(&line)?;
     }
     Ok(())
 }
 
 // What the file engine stacked, as bytes.
-fn end_file(out: &mut Vec<u8>, engine: FileEngine) -> Result<(), AllocError> {
+fn end_file<R: Read>(player: &mut Player<R>, engine: FileEngine) -> io::Result<()> {
     let (bytes, used) = engine.into_bytes();
-    lines::bin_line(out, used / 8)?;
+    player.say_number("bin ", (used / 8) as u64)?;
     let used = used.min(bytes.len());
-    lines::bin_bytes_line(out, &bytes[0..used])
+    player.say_bytes("bin-bytes", &bytes[0..used])
 }
 
 fn on_track<R: Read>(player: &mut Player<R>, room: u32) -> io::Result<Next> {
-    lines::engine_track_line(&mut player.out, room)?;
+    player.say_number("engine track ", room as u64)?;
     let blank = Sheet {
         page: 0,
         copy: 0,
@@ -47,15 +54,15 @@ fn on_track<R: Read>(player: &mut Player<R>, room: u32) -> io::Result<Next> {
     };
     let list = vec![in player.heap; blank; room as usize]?;
     let (engine, next) = session(player, TrackEngine::new(list))?;
-    end_track(&mut player.out, engine)?;
+    end_track(player, engine)?;
     Ok(next)
 }
 
 fn on_file<R: Read>(player: &mut Player<R>, room: u32) -> io::Result<Next> {
-    lines::engine_file_line(&mut player.out, room)?;
+    player.say_number("engine file ", room as u64)?;
     let bytes = vec![in player.heap; 0u8; room as usize]?;
     let (engine, next) = session(player, FileEngine::new(bytes))?;
-    end_file(&mut player.out, engine)?;
+    end_file(player, engine)?;
     Ok(next)
 }
 

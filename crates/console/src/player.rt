@@ -25,7 +25,7 @@ pub struct Player<R: Read> {
     // The bytes that the line's hexadecimal word stands for.
     pub data: Vec<u8>,
     // Answers that are not written yet.
-    pub out: Vec<u8>,
+    out: Vec<u8>,
     pub heap: Global,
 }
 
@@ -57,11 +57,20 @@ impl<R: Read> Player<R> {
         Ok(())
     }
 
-    // The next call; None for a malformed line. Answers are written before a line has to be waited for.
-    fn next_call(&mut self) -> io::Result<Option<Option<Call>>> {
-        if self.input.buffer().is_empty() || self.out.len() > 65536 {
+    // Writes the answers where many wait.
+    pub(crate) fn flush_much(&mut self) -> io::Result<()> {
+        if self.out.len() > 65536 {
             self.flush()?;
         }
+        Ok(())
+    }
+
+    // The next call; None for a malformed line. Answers are written before a line has to be waited for.
+    fn next_call(&mut self) -> io::Result<Option<Option<Call>>> {
+        if self.input.buffer().is_empty() {
+            self.flush()?;
+        }
+        self.flush_much()?;
         self.line.clear();
         if self.input.read_until(b'\n', &mut self.line)? == 0 {
             return Ok(None);
@@ -73,9 +82,24 @@ impl<R: Read> Player<R> {
         Ok(Some(parse(&self.line, &mut self.data)?))
     }
 
-    pub(crate) fn wrong(&mut self) -> io::Result<()> {
-        lines::error_line(&mut self.out, self.number)?;
+    // Adds a line to the answers.
+    pub(crate) fn say(&mut self, line: &str) -> io::Result<()> {
+        self.out.extend_from_slice(line.as_bytes())?;
         Ok(())
+    }
+
+    pub(crate) fn say_number(&mut self, name: &str, n: u64) -> io::Result<()> {
+        let line = lines::number_line(self.heap, name, n)?;
+        self.say(&line)
+    }
+
+    pub(crate) fn say_bytes(&mut self, name: &str, bytes: &[u8]) -> io::Result<()> {
+        let line = lines::hex_line(self.heap, name, bytes)?;
+        self.say(&line)
+    }
+
+    pub(crate) fn wrong(&mut self) -> io::Result<()> {
+        self.say_number("error line ", self.number)
     }
 }
 

@@ -1,73 +1,75 @@
 -- The lines that answer a script, each with its newline.
---   numberLine   a name and a number to the end of a line
---   hexEnd       bytes to the end of a line; the line just ends where there are none
---   sheetText    a sheet's page, the number of its copy, and whether that copy is the page's last
---   ...Line      the whole answer of that name
-use mathlib.Core.Bool.{Bool}
+--   numberLine     a name and the number that follows it
+--   hexLine        a name and bytes
+--   takeLine       what a take used, its number, the size of its reply, and how many marks it told
+--   countersLine   pages received, and the pages and copies that are committed and stacked
+--   placeText      a number that may be negative, after a space
+--   markLine       a mark: its kind, its place, and its two numbers
+--   areasLine      the sizes of the areas
+--   memoryLine     bytes of the memory: their address, how many they are, and what they are
+--   flagText       a yes as 1, a no as 0
+--   sheetLine      a sheet, between words: its page, its copy, and whether that copy is the page's last
+use mathlib.Core.Bool.{Bool, cond}
 use mathlib.Core.List.{List, _∷_, _++_}
 use Prim.Native.Nat.{ℕ}
 use lib.Chars.{codes}
 use lib.IntN.{ℤ}
 use lib.ListN.{length}
-use Rattle.std.specs.Written.{signed}
-use Rattle.lines.specs.Texts.{field, flag, pageText, spaced}
+use Rattle.std.specs.Written.{decimal, signed}
+use Rattle.hex.specs.Hex.{pageText, spacedHex}
 
 abbrev pub numberLine : List ℕ → ℕ → List ℕ
-numberLine name n = field name n ++ codes "\n"
+numberLine name n = name ++ (decimal n ++ codes "\n")
 
-abbrev pub hexEnd : List ℕ → List ℕ
-hexEnd bytes = spaced bytes ++ codes "\n"
+abbrev pub hexLine : List ℕ → List ℕ → List ℕ
+hexLine name bytes = name ++ (spacedHex bytes ++ codes "\n")
 
 abbrev pub takeLine : ℕ → ℕ → ℕ → ℕ → List ℕ
 takeLine used number reply marks =
-    field (codes "take used=") used
-    ++ (field (codes " number=") number
-    ++ (field (codes " reply=") reply
-    ++ numberLine (codes " marks=") marks))
+    codes "take used=" ++ (decimal used
+    ++ (codes " number=" ++ (decimal number
+    ++ (codes " reply=" ++ (decimal reply
+    ++ (codes " marks=" ++ (decimal marks
+    ++ codes "\n")))))))
 
-abbrev pub replyLine : List ℕ → List ℕ
-replyLine bytes = codes "reply" ++ hexEnd bytes
+abbrev pub countersLine : ℕ → ℕ × ℕ → ℕ × ℕ → List ℕ
+countersLine received committed stacked =
+    codes "counters received=" ++ (decimal received
+    ++ (codes " committed=" ++ (decimal (committed .0)
+    ++ (codes "/" ++ (decimal (committed .1)
+    ++ (codes " stacked=" ++ (decimal (stacked .0)
+    ++ (codes "/" ++ (decimal (stacked .1)
+    ++ codes "\n")))))))))
 
--- pages received, and the pages and copies that are committed and stacked
-abbrev pub countersLine : ℕ → ℕ → ℕ → ℕ → ℕ → List ℕ
-countersLine received committedPages committedCopies stackedPages stackedCopies =
-    field (codes "counters received=") received
-    ++ (field (codes " committed=") committedPages
-    ++ (field (codes "/") committedCopies
-    ++ (field (codes " stacked=") stackedPages
-    ++ numberLine (codes "/") stackedCopies)))
-
--- one of a mark's numbers that may be negative
-abbrev pub place : ℤ → List ℕ
-place z = 32 ∷ signed z
+abbrev pub placeText : ℤ → List ℕ
+placeText z = codes " " ++ signed z
 
 abbrev pub markLine : ℕ → ℤ → ℤ → ℤ → ℤ → List ℕ
-markLine kind i b first second = field (codes "mark ") kind ++ (place i ++ (place b ++ (place first ++ (place second ++ codes "\n"))))
-
-abbrev pub memoryLine : ℕ → List ℕ → List ℕ
-memoryLine at bytes = field (codes "memory ") at ++ (field (codes " ") (length bytes) ++ hexEnd bytes)
-
-abbrev pub replyAreaLine : List ℕ → List ℕ
-replyAreaLine bytes = codes "reply-area" ++ hexEnd bytes
-
-abbrev pub binBytesLine : List ℕ → List ℕ
-binBytesLine bytes = codes "bin-bytes" ++ hexEnd bytes
+markLine kind i b first second =
+    codes "mark " ++ (decimal kind
+    ++ (placeText i
+    ++ (placeText b
+    ++ (placeText first
+    ++ (placeText second
+    ++ codes "\n")))))
 
 abbrev pub areasLine : ℕ → ℕ → ℕ → List ℕ
-areasLine reply marks memory = field (codes "areas ") reply ++ (field (codes " ") marks ++ numberLine (codes " ") memory)
+areasLine reply marks memory =
+    codes "areas " ++ (decimal reply
+    ++ (codes " " ++ (decimal marks
+    ++ (codes " " ++ (decimal memory
+    ++ codes "\n")))))
 
-abbrev pub sheetText : ℕ → ℕ → Bool → List ℕ
-sheetText page copy last = codes "page=" ++ (pageText page ++ (field (codes " copy=") copy ++ field (codes " last=") (flag last)))
+abbrev pub memoryLine : ℕ → List ℕ → List ℕ
+memoryLine at bytes = hexLine (codes "memory " ++ (decimal at ++ (codes " " ++ decimal (length bytes)))) bytes
 
-abbrev pub sheetLine : ℕ → ℕ → Bool → List ℕ
-sheetLine page copy last = codes "sheet " ++ (sheetText page copy last ++ codes "\n")
+abbrev pub flagText : Bool → List ℕ
+flagText b = cond b (codes "1") (codes "0")
 
--- a turn, and whether it fed a sheet
-abbrev pub stackedLine : ℕ → ℕ → Bool → Bool → List ℕ
-stackedLine page copy last fed = codes "turn stacked " ++ (sheetText page copy last ++ numberLine (codes " fed=") (flag fed))
-
-abbrev pub pathEmptyLine : Bool → List ℕ
-pathEmptyLine fed = numberLine (codes "turn path-empty fed=") (flag fed)
-
-abbrev pub binFullLine : Bool → List ℕ
-binFullLine fed = numberLine (codes "turn bin-full fed=") (flag fed)
+abbrev pub sheetLine : List ℕ → ℕ → ℕ → Bool → List ℕ → List ℕ
+sheetLine name page copy last end =
+    name
+    ++ (codes "page=" ++ (pageText page
+    ++ (codes " copy=" ++ (decimal copy
+    ++ (codes " last=" ++ (flagText last
+    ++ (end ++ codes "\n")))))))

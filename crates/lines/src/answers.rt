@@ -1,63 +1,70 @@
-// What a take, a mark, a jam and a malformed line answer.
-ghost use lib.Chars.{codes};
-ghost use Rattle.lines.specs.Answers.{numberLine, takeLine, place, markLine};
-ghost use Rattle.lines.specs.Texts.{Adds};
-use crate::numbers::put_field;
-use crate::numbers::put_number_line;
-use crate::numbers::put_signed;
-use crate::numbers::put_text;
+// Lines of several numbers.
+ghost use mathlib.Core.Path.{_≡_};
+ghost use Rattle.std.specs.Of.String.{string-bytes};
+ghost use Rattle.std.specs.Vec.{made};
+ghost use Rattle.lines.specs.Answers.{takeLine, countersLine, placeText, markLine, areasLine};
 use std::alloc::AllocError;
+use std::alloc::Global;
 
 pub fn take_line(
-    out: &mut Vec<u8>,
+    heap: Global,
     used: usize,
     number: u8,
     reply: usize,
     marks: usize,
-) -> Result<(), AllocError>
-    ensures { λ r. ⌜ Adds r (now (out .entry)) (now (out .exit)) (takeLine used number reply marks) ⌝ }
+) -> Result<String, AllocError>
+    ensures { λ r. ⌜ made r (λ s. string-bytes s ≡ takeLine used number reply marks) ⌝ }
 {
-    put_field(out, b"take used=", used as u64)?;
-    put_field(out, b" number=", number as u64)?;
-    put_field(out, b" reply=", reply as u64)?;
-    put_number_line(out, b" marks=", marks as u64)
+    format!(
+        heap,
+        "take used={used} number={number} reply={reply} marks={marks}\n"
+    )
 }
 
-// Adds a space and a number that may be negative.
-fn put_place(out: &mut Vec<u8>, n: i64) -> Result<(), AllocError>
-    ensures { λ r. ⌜ Adds r (now (out .entry)) (now (out .exit)) (place n) ⌝ }
+// Pages received, and the pages and copies that are committed and stacked.
+pub fn counters_line(
+    heap: Global,
+    received: u64,
+    committed: (u64, u64),
+    stacked: (u64, u64),
+) -> Result<String, AllocError>
+    ensures { λ r. ⌜ made r (λ s. string-bytes s ≡ countersLine received committed stacked) ⌝ }
 {
-    put_text(out, b" ")?;
-    put_signed(out, n)
+    let (pages, copies) = committed;
+    let (pages_out, copies_out) = stacked;
+    format!(
+        heap,
+        "counters received={received} committed={pages}/{copies} stacked={pages_out}/{copies_out}\n"
+    )
+}
+
+// A number that may be negative, after a space.
+fn place(heap: Global, n: i64) -> Result<String, AllocError>
+    ensures { λ r. ⌜ made r (λ s. string-bytes s ≡ placeText n) ⌝ }
+{
+    format!(heap, " {n}")
 }
 
 pub fn mark_line(
-    out: &mut Vec<u8>,
+    heap: Global,
     kind: u32,
     i: i64,
     b: i64,
     first: i64,
     second: i64,
-) -> Result<(), AllocError>
-    ensures { λ r. ⌜ Adds r (now (out .entry)) (now (out .exit)) (markLine kind i b first second) ⌝ }
+) -> Result<String, AllocError>
+    ensures { λ r. ⌜ made r (λ s. string-bytes s ≡ markLine kind i b first second) ⌝ }
 {
-    put_field(out, b"mark ", kind as u64)?;
-    put_place(out, i)?;
-    put_place(out, b)?;
-    put_place(out, first)?;
-    put_place(out, second)?;
-    put_text(out, b"\n")
+    let i = place(heap, i)?;
+    let b = place(heap, b)?;
+    let first = place(heap, first)?;
+    let second = place(heap, second)?;
+    format!(heap, "mark {kind}{i}{b}{first}{second}\n")
 }
 
-pub fn jam_line(out: &mut Vec<u8>) -> Result<(), AllocError>
-    ensures { λ r. ⌜ Adds r (now (out .entry)) (now (out .exit)) (codes "jam\n") ⌝ }
+// The sizes of the reply area, of the list of marks and of the memory.
+pub fn areas_line(heap: Global, reply: u32, marks: u32, memory: u32) -> Result<String, AllocError>
+    ensures { λ r. ⌜ made r (λ s. string-bytes s ≡ areasLine reply marks memory) ⌝ }
 {
-    put_text(out, b"jam\n")
-}
-
-// The number of a malformed line, from 1.
-pub fn error_line(out: &mut Vec<u8>, number: u64) -> Result<(), AllocError>
-    ensures { λ r. ⌜ Adds r (now (out .entry)) (now (out .exit)) (numberLine (codes "error line ") number) ⌝ }
-{
-    put_number_line(out, b"error line ", number)
+    format!(heap, "areas {reply} {marks} {memory}\n")
 }

@@ -1,52 +1,34 @@
-// Sheets, and the turns that feed and stack them.
-ghost use Rattle.lines.specs.Answers.{sheetText, sheetLine, stackedLine, pathEmptyLine, binFullLine};
-ghost use Rattle.lines.specs.Texts.{Adds};
-use crate::hex::put_page;
-use crate::numbers::put_field;
-use crate::numbers::put_number_line;
-use crate::numbers::put_text;
+// Sheets.
+ghost use mathlib.Core.Path.{_≡_};
+ghost use Rattle.std.specs.Of.String.{string-bytes};
+ghost use Rattle.std.specs.Vec.{made};
+ghost use Rattle.lines.specs.Answers.{flagText, sheetLine};
 use std::alloc::AllocError;
+use std::alloc::Global;
 
-fn put_sheet(out: &mut Vec<u8>, page: u32, copy: u8, last: bool) -> Result<(), AllocError>
-    ensures { λ r. ⌜ Adds r (now (out .entry)) (now (out .exit)) (sheetText page copy last) ⌝ }
+// A yes as 1, a no as 0.
+fn flag(heap: Global, yes: bool) -> Result<String, AllocError>
+    ensures { λ r. ⌜ made r (λ s. string-bytes s ≡ flagText yes) ⌝ }
 {
-    put_text(out, b"page=")?;
-    put_page(out, page)?;
-    put_field(out, b" copy=", copy as u64)?;
-    put_field(out, b" last=", last as u64)
+    if yes {
+        String::from_str(heap, "1")
+    } else {
+        String::from_str(heap, "0")
+    }
 }
 
-pub fn sheet_line(out: &mut Vec<u8>, page: u32, copy: u8, last: bool) -> Result<(), AllocError>
-    ensures { λ r. ⌜ Adds r (now (out .entry)) (now (out .exit)) (sheetLine page copy last) ⌝ }
-{
-    put_text(out, b"sheet ")?;
-    put_sheet(out, page, copy, last)?;
-    put_text(out, b"\n")
-}
-
-// A turn that stacked a sheet, and whether it also fed one.
-pub fn stacked_line(
-    out: &mut Vec<u8>,
+// A sheet of the bin, or one that a turn stacked, between the words of the line.
+pub fn sheet_line(
+    heap: Global,
+    name: &str,
     page: u32,
     copy: u8,
     last: bool,
-    fed: bool,
-) -> Result<(), AllocError>
-    ensures { λ r. ⌜ Adds r (now (out .entry)) (now (out .exit)) (stackedLine page copy last fed) ⌝ }
+    end: &str,
+) -> Result<String, AllocError>
+    ensures { λ r. ⌜ made r (λ s. string-bytes s ≡ sheetLine (now (name .entry)) page copy last (now (end .entry))) ⌝ }
 {
-    put_text(out, b"turn stacked ")?;
-    put_sheet(out, page, copy, last)?;
-    put_number_line(out, b" fed=", fed as u64)
-}
-
-pub fn path_empty_line(out: &mut Vec<u8>, fed: bool) -> Result<(), AllocError>
-    ensures { λ r. ⌜ Adds r (now (out .entry)) (now (out .exit)) (pathEmptyLine fed) ⌝ }
-{
-    put_number_line(out, b"turn path-empty fed=", fed as u64)
-}
-
-pub fn bin_full_line(out: &mut Vec<u8>, fed: bool) -> Result<(), AllocError>
-    ensures { λ r. ⌜ Adds r (now (out .entry)) (now (out .exit)) (binFullLine fed) ⌝ }
-{
-    put_number_line(out, b"turn bin-full fed=", fed as u64)
+    let page = hex::page(heap, page)?;
+    let last = flag(heap, last)?;
+    format!(heap, "{name}page={page} copy={copy} last={last}{end}\n")
 }

@@ -18,8 +18,8 @@ use lib.ListN.{length}
 use Rattle.std.specs.declared.option.Option.{Option}
 use Rattle.std.specs.declared.option.Option.the-variants.{Some, None}
 use Rattle.std.specs.shelf.Text.{sameBytes}
-use Rattle.script.specs.Numerals.{andThen, only, numberOf, upTo, bytesOf}
-use Rattle.script.specs.Words.{wordOf, restOf, skipped}
+use Rattle.words.specs.Numerals.{andThen, only, numberOf, upTo, bytesOf}
+use Rattle.words.specs.Words.{wordOf, restOf, skipped}
 use Rattle.script.specs.declared.call.Call.{Call}
 use Rattle.script.specs.declared.call.Call.the-variants.{Skip, EngineTrack, EngineFile, Areas, Take, Turn, Jam, Counters, Owed, Marks, Memory, Poke, ReplyArea, End}
 

@@ -5,13 +5,13 @@ ghost use Rattle.std.specs.Of.Vec.{vec-items};
 ghost use Rattle.std.specs.Vec.{made};
 ghost use Rattle.script.specs.Calls.{carrying, bareOf, engineOf, areasOf, memoryOf, numbered, pokeOf, followed, saidOf};
 use crate::call::Call;
-use crate::digits::hex;
-use crate::digits::number;
-use crate::digits::number_up_to;
-use crate::words::first_word;
-use crate::words::same;
-use crate::words::says_nothing;
 use std::alloc::AllocError;
+use words::first_word;
+use words::hex;
+use words::number;
+use words::number_up_to;
+use words::same;
+use words::says_nothing;
 
 // The room of an engine: sheet records of a track, bytes of a file.
 const TRACK: u32 = 10_000_000;

@@ -1,4 +1,0 @@
-pub mod Numbers
-pub mod Pairs
-pub mod Spaces
-pub mod Same
