@@ -11,7 +11,7 @@
 --   sheet_line      a sheet, between words: its page, its copy, and whether that copy is the page's last
 use Rattle.std.specs.Prelude.{ℕ, Bool, cond, List, ◌∷◌, ◌++◌, length, ℤ, codes, decimal}
 use Rattle.std.specs.Fmt.{signed_decimal}
-use Rattle.hex.specs.Hex.{page_text, spaced_hex}
+use Rattle.hexadecimal.specs.Hex.{page_text, spaced_hex}
 
 abbrev pub number_line : List ℕ → ℕ → List ℕ
 number_line name n = name ++ (decimal n ++ codes "\n")

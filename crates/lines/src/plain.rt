@@ -13,7 +13,7 @@ pub fn number_line(heap: Global, name: &str, n: u64) -> Result<String, AllocErro
 pub fn hex_line(heap: Global, name: &str, bytes: &[u8]) -> Result<String, AllocError>
     ensures { IfOk result (λ s. string_bytes s ≡ hex_line name.now bytes.now) }
 {
-    let digits = hex::spaced(heap, bytes)?;
+    let digits = hexadecimal::spaced(heap, bytes)?;
     format!(in heap; "{name}{digits}\n")
 }
 

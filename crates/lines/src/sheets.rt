@@ -26,7 +26,7 @@ pub fn sheet_line(
 ) -> Result<String, AllocError>
     ensures { IfOk result (λ s. string_bytes s ≡ sheet_line name.now page copy last end.now) }
 {
-    let page = hex::page(heap, page)?;
+    let page = hexadecimal::page(heap, page)?;
     let last = flag(heap, last)?;
     format!(in heap; "{name}page={page} copy={copy} last={last}{end}\n")
 }

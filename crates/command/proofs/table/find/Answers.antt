@@ -3,4 +3,4 @@ use Rattle.command.proofs.table.find.Goals as goal
 
 pub returns : goal.returns
 unfolding row_of
-returns c = c.find-in-table.ensures
+returns c = c.find_in_table.ensures

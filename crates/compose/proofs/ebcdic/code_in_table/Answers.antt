@@ -3,4 +3,4 @@ use Rattle.compose.proofs.ebcdic.code_in_table.Goals as goal
 
 pub returns : goal.returns
 unfolding table
-returns c = c.code-in.ensures
+returns c = c.code_in.ensures

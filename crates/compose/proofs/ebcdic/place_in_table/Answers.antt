@@ -3,4 +3,4 @@ use Rattle.compose.proofs.ebcdic.place_in_table.Goals as goal
 
 pub returns : goal.returns
 unfolding table
-returns c = c.place-in.ensures
+returns c = c.place_in.ensures

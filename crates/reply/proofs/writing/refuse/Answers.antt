@@ -8,5 +8,5 @@ use Rattle.reply.proofs.writing.refuse.Goals as goal
 pub returns : goal.returns
 returns c = record {
   length = sym (cond-true _ _ _ (le-leb 40 (length c.args.area.now) (omega arith)));
-  area = two_parts (heading 40 128 (told c.args.counters)) _ (sense c.args.fault) _ c.args.area.now 16 (c.copy-from-slice.ensures.after ∙ c.heading-of.ensures) (c.copy-from-slice-2.ensures.after ∙ c.sense-of.ensures) refl (omega arith);
+  area = two_parts (heading 40 128 (told c.args.counters)) _ (sense c.args.fault) _ c.args.area.now 16 (c.copy_from_slice.ensures.after ∙ c.heading_of.ensures) (c.copy_from_slice-2.ensures.after ∙ c.sense_of.ensures) refl (omega arith);
 }

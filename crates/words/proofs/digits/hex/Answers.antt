@@ -5,7 +5,7 @@ use Rattle.words.proofs.digits.hex.Goals as goal
 pub loop-rest-preserved : goal.loop-rest-preserved
 loop-rest-preserved c =
     paired c.loop-rest.rest.now _ _ _ _ _ (search rules) (sym c.nibble.ensures.value ∙ c.in-Some-Some.is-0) (sym c.nibble-in-len2-up.ensures.value ∙ c.in-Some-Some.is-1)
-    c.in-ok-push.ensures.items
+    c.in_ok-push.ensures.items
     c.loop-rest.invariant
 
 pub loop-rest-init : goal.loop-rest-init

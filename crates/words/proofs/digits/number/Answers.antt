@@ -2,9 +2,9 @@ use Rattle.std.proofs.Common.{arith, rules}
 use Rattle.words.proofs.Numbers.{went_on, broke_off, ended, grows, small}
 use Rattle.words.proofs.digits.number.Goals as goal
 
-pub returns-in-default : goal.returns-in-default
-returns-in-default c =
-    let e = broke_off _ c.loop-b.b-index _ _ _ c.loop-b-test.true c.digit.ensures.value c.in-default.is c.loop-b.invariant.0 in
+pub returns-in_default : goal.returns-in_default
+returns-in_default c =
+    let e = broke_off _ c.loop-b.b-index _ _ _ c.loop-b-test.true c.digit.ensures.value c.in_default.is c.loop-b.invariant.0 in
     search (rules, e)
 
 pub overflow-mul-n : goal.overflow-mul-n

@@ -10,7 +10,7 @@ pub returns : goal.returns
 returns g c =
     let m = g.E.Engine in
     let p = c.args.self.now in
-    let now = c.lose-paper.ensures in
+    let now = c.lose_paper.ensures in
     record {
       end = now;
       law = λ run s. subst (λ (e : PrinterEnd). Stands meaning m.most (after_jam_law meaning run) (station_of e)) (sym now) (jam_law meaning m.most (m.sound p.engine).some run (station_of (end_of m p)) s);

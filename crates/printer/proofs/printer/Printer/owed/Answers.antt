@@ -14,7 +14,7 @@ overflow-add-result g c =
     let sound = m.sound c.args.self.now.engine in
     let few : m.most ≤ 8 = sound.few in
     let short = sound.short in
-    let small : c.count-owed-path.result.0 + c.count-owed-path.result.1 < 2 ^ 64 = omega (arith, c.count-owed-path.ensures.path, c.count-owed-path.ensures.few) in
+    let small : c.count_owed-path.result.0 + c.count_owed-path.result.1 < 2 ^ 64 = omega (arith, c.count_owed-path.ensures.path, c.count_owed-path.ensures.few) in
     search rules
 
 pub returns : goal.returns
@@ -25,8 +25,8 @@ returns g c =
     let few : m.most ≤ 8 = sound.few in
     let short = sound.short in
     let v = view_of (end_of m p) in
-    let q = c.count-owed-path.ensures in
-    let is : c.count-owed-path.result.0 + c.count-owed-path.result.1 ≡ owed (flow_of v) = omega (arith, q.path, q.waiting, owed_is v) in
+    let q = c.count_owed-path.ensures in
+    let is : c.count_owed-path.result.0 + c.count_owed-path.result.1 ≡ owed (flow_of v) = omega (arith, q.path, q.waiting, owed_is v) in
     record {
       owed = is;
       most = omega (arith, q.path, q.few);

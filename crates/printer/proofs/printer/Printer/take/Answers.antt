@@ -14,16 +14,16 @@ pub returns : goal.returns
 returns g c =
     let m = g.E.Engine in
     let p = c.args.self.now in
-    let q = c.carry-out.new.self in
+    let q = c.carry_out.new.self in
     let bs = c.args.bytes.now in
-    let area = c.carry-out.new.reply in
+    let area = c.carry_out.new.reply in
     let before = machine_of p.interpreter p.spool in
     let after = machine_of q.interpreter q.spool in
-    let same : q.engine ≡ p.engine = c.carry-out.ensures.engine in
-    let e : taking after area c.carry-out.result ≡ take_of bs before c.args.reply.now = c.carry-out.ensures.took in
-    let seen : Seen bs before (taking after area c.carry-out.result) = subst (Seen bs before) (sym e) (take_seen_law bs before c.args.reply.now) in
+    let same : q.engine ≡ p.engine = c.carry_out.ensures.engine in
+    let e : taking after area c.carry_out.result ≡ take_of bs before c.args.reply.now = c.carry_out.ensures.took in
+    let seen : Seen bs before (taking after area c.carry_out.result) = subst (Seen bs before) (sym e) (take_seen_law bs before c.args.reply.now) in
     let given = areas c.args.reply.now c.args.marks.now c.args.memory.now in
     record {
-      took = ap (λ x. took_as (printer_end (paper_of m x) after) (areas area c.args.marks.now c.args.memory.now) c.carry-out.result) same ∙ ap (λ t. took_by t (end_of m p) given) e;
-      law = λ run s. subst (λ x. Stands meaning m.most (after_still meaning run (took (take_seen bs c.carry-out.result area))) (station_of (printer_end (paper_of m x) after))) (sym same) (take_law meaning m.most (m.sound p.engine).some run (station_of (end_of m p)) (whole_spool p.spool) s (take_seen bs c.carry-out.result area) (receiver_of after) seen.effect q.interpreter.copies.some seen.counts);
+      took = ap (λ x. took_as (printer_end (paper_of m x) after) (areas area c.args.marks.now c.args.memory.now) c.carry_out.result) same ∙ ap (λ t. took_by t (end_of m p) given) e;
+      law = λ run s. subst (λ x. Stands meaning m.most (after_still meaning run (took (take_seen bs c.carry_out.result area))) (station_of (printer_end (paper_of m x) after))) (sym same) (take_law meaning m.most (m.sound p.engine).some run (station_of (end_of m p)) (whole_spool p.spool) s (take_seen bs c.carry_out.result area) (receiver_of after) seen.effect q.interpreter.copies.some seen.counts);
     }

@@ -16,9 +16,9 @@ pub returns : goal.returns
 returns g c =
     let m = g.E.Engine in
     let p = c.args.self.now in
-    let q = c.turn-once.new.self in
+    let q = c.turn_once.new.self in
     let sound = m.sound p.engine in
-    let t = c.turn-once.ensures in
+    let t = c.turn_once.ensures in
     let v = view_of (end_of m p) in
     let now : view_of (end_of m q) ≡ turn_v m.most v = t.view in
     let same : q.interpreter ≡ p.interpreter = t.interpreter in

@@ -18,25 +18,25 @@ use Rattle.spool.proofs.Feeding.{feeding, commit_last, commit_more}
 pub invariant-of-self : goal.invariant-of-self
 invariant-of-self c =
     let s = c.args.self.now in
-    let x = c.copy-of-first-sheet.result in
+    let x = c.copy_of_first-sheet.result in
     let r = counted c.in-Some.committed in
     let some : 0 < s.waiting = omega arith in
-    let f = feeding s x r c.add.new.slots c.copy-of-first-sheet.ensures c.in-Some.ensures c.add.ensures.slots some (λ e. omega arith) in
-    let out = c.take-first.new.slots in
+    let f = feeding s x r c.add.new.slots c.copy_of_first-sheet.ensures c.in-Some.ensures c.add.ensures.slots some (λ e. omega arith) in
+    let out = c.take_first.new.slots in
     let le : s.waiting ≤ length s.pages = omega (arith, s.short, s.slots) in
-    let less = unfed_less s.pages out s.waiting (left_rest s.pages out s.waiting some le c.take-first.ensures.slots) s.unfed in
+    let less = unfed_less s.pages out s.waiting (left_rest s.pages out s.waiting some le c.take_first.ensures.slots) s.unfed in
     let now = plus_is (counted s.committed) r x c.in-Some.ensures ∙ after_last (counted s.committed) x c.if-sheet.true in
     let p : r.pages ≡ s.committed.pages.0 + 1 = ap (λ (t : Pair). t.pages) now in
     let z : r.copies ≡ 0 = ap (λ (t : Pair). t.copies) now in
-    (s.fits, (left_length s.pages out s.waiting some le c.take-first.ensures.slots ∙ s.slots, (omega (arith, s.short), (f.long, (omega (arith, s.within), (omega (arith, s.paged), (less, ((λ h. omega (arith, (less 0 h).1)), (f.few, (f.pages, (f.copies, (f.each, tt))))))))))))
+    (s.fits, (left_length s.pages out s.waiting some le c.take_first.ensures.slots ∙ s.slots, (omega (arith, s.short), (f.long, (omega (arith, s.within), (omega (arith, s.paged), (less, ((λ h. omega (arith, (less 0 h).1)), (f.few, (f.pages, (f.copies, (f.each, tt))))))))))))
 
 pub invariant-of-self-else-sheet : goal.invariant-of-self-else-sheet
 invariant-of-self-else-sheet c =
     let s = c.args.self.now in
-    let x = c.copy-of-first-sheet.result in
+    let x = c.copy_of_first-sheet.result in
     let r = counted c.in-Some.committed in
     let some : 0 < s.waiting = omega arith in
-    let f = feeding s x r c.add.new.slots c.copy-of-first-sheet.ensures c.in-Some.ensures c.add.ensures.slots some (λ e. omega arith) in
+    let f = feeding s x r c.add.new.slots c.copy_of_first-sheet.ensures c.in-Some.ensures c.add.ensures.slots some (λ e. omega arith) in
     let now = plus_is (counted s.committed) r x c.in-Some.ensures ∙ after_other (counted s.committed) x c.if-sheet.false in
     let p : r.pages ≡ s.committed.pages.0 = ap (λ (t : Pair). t.pages) now in
     let z : r.copies ≡ s.committed.copies.0 + 1 = ap (λ (t : Pair). t.copies) now in
@@ -49,19 +49,19 @@ invariant-of-self-else-sheet c =
 pub returns-then-sheet : goal.returns-then-sheet
 returns-then-sheet c =
     let s = c.args.self.now in
-    let x = c.copy-of-first-sheet.result in
+    let x = c.copy_of_first-sheet.result in
     let r = counted c.in-Some.committed in
     let some : 0 < s.waiting = omega arith in
-    let f = feeding s x r c.add.new.slots c.copy-of-first-sheet.ensures c.in-Some.ensures c.add.ensures.slots some (λ e. omega arith) in
-    let out = c.take-first.new.slots in
+    let f = feeding s x r c.add.new.slots c.copy_of_first-sheet.ensures c.in-Some.ensures c.add.ensures.slots some (λ e. omega arith) in
+    let out = c.take_first.new.slots in
     let le : s.waiting ≤ length s.pages = omega (arith, s.short, s.slots) in
-    f.is (take (s.waiting - 1) out) ∙ commit_last s.pages out s.waiting (spool_of s) some le refl f.place (left_rest s.pages out s.waiting some le c.take-first.ensures.slots) (sym f.last ∙ c.if-sheet.true)
+    f.is (take (s.waiting - 1) out) ∙ commit_last s.pages out s.waiting (spool_of s) some le refl f.place (left_rest s.pages out s.waiting some le c.take_first.ensures.slots) (sym f.last ∙ c.if-sheet.true)
 
 pub returns-else-sheet : goal.returns-else-sheet
 returns-else-sheet c =
     let s = c.args.self.now in
-    let x = c.copy-of-first-sheet.result in
+    let x = c.copy_of_first-sheet.result in
     let r = counted c.in-Some.committed in
     let some : 0 < s.waiting = omega arith in
-    let f = feeding s x r c.add.new.slots c.copy-of-first-sheet.ensures c.in-Some.ensures c.add.ensures.slots some (λ e. omega arith) in
+    let f = feeding s x r c.add.new.slots c.copy_of_first-sheet.ensures c.in-Some.ensures c.add.ensures.slots some (λ e. omega arith) in
     f.is _ ∙ commit_more s.pages s.waiting (spool_of s) some (omega (arith, s.short, s.slots)) refl f.place (sym f.last ∙ c.if-sheet.false)

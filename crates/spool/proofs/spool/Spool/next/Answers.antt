@@ -10,4 +10,4 @@ pub returns : goal.returns
 returns c =
     let s = c.args.self.now in
     let h = fed_is s in
-    ap Some c.copy-of-first.ensures ∙ next_is s.pages s.waiting (counted s.committed) (omega arith) (omega (arith, s.slots)) ∙ ap (λ b. cond b (next_at (take s.waiting s.pages) (counted s.committed)) None) (sym (free_yes (spool_of s) (omega (arith, s.within))))
+    ap Some c.copy_of_first.ensures ∙ next_is s.pages s.waiting (counted s.committed) (omega arith) (omega (arith, s.slots)) ∙ ap (λ b. cond b (next_at (take s.waiting s.pages) (counted s.committed)) None) (sym (free_yes (spool_of s) (omega (arith, s.within))))

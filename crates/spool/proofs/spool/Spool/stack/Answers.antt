@@ -9,26 +9,26 @@ use Rattle.spool.specs.Jobs.{sheet}
 use Rattle.spool.specs.Spools.{spool_of}
 use Rattle.spool.proofs.Tracked.{fed_is, stack_fits, pop_tied, pop_few, pop_whole, none_stacked}
 
-pub returns-in-default : goal.returns-in-default
-returns-in-default c =
+pub returns-in_default : goal.returns-in_default
+returns-in_default c =
     let s = c.args.self.now in
     let x = get_or s.path 0 (sheet 0 0 false) in
     let le : s.fed ≤ length s.path = omega (arith, s.places, s.within) in
     let some : 0 < s.fed = omega arith in
-    absurd (both_ways _ (plus_fits (counted s.stacked) x c.in-default.ensures) (stack_fits s x _ (first_and_rest s.path s.fed (sheet 0 0 false) some le)))
+    absurd (both_ways _ (plus_fits (counted s.stacked) x c.in_default.ensures) (stack_fits s x _ (first_and_rest s.path s.fed (sheet 0 0 false) some le)))
 
 pub invariant-of-self : goal.invariant-of-self
 invariant-of-self c =
     let s = c.args.self.now in
     let x = get_or s.path 0 (sheet 0 0 false) in
-    let n = c.take-first.new.slots in
+    let n = c.take_first.new.slots in
     let le : s.fed ≤ length s.path = omega (arith, s.places, s.within) in
     let some : 0 < s.fed = omega arith in
     let er = plus_is (counted s.stacked) (counted c.in-Some.stacked) x c.in-Some.ensures in
-    let is = left_first s.path n s.fed some le c.take-first.ensures.slots (sheet 0 0 false) in
+    let is = left_first s.path n s.fed some le c.take_first.ensures.slots (sheet 0 0 false) in
     let tie = pop_tied (counted s.stacked) (counted c.in-Some.stacked) s.path n s.fed (sheet 0 0 false) er is in
     let each = pop_few (counted s.stacked) (counted c.in-Some.stacked) s.path n s.fed (sheet 0 0 false) er is some s.each in
-    (s.fits, (s.slots, (s.short, (left_length s.path n s.fed some le c.take-first.ensures.slots ∙ s.places, (omega (arith, s.within), (s.paged, (s.unfed, (s.first, (s.few, (s.whole ∙ ap (λ (t : Pair). t.pages) tie, (s.part ∙ ap (λ (t : Pair). t.copies) tie, (each, tt))))))))))))
+    (s.fits, (s.slots, (s.short, (left_length s.path n s.fed some le c.take_first.ensures.slots ∙ s.places, (omega (arith, s.within), (s.paged, (s.unfed, (s.first, (s.few, (s.whole ∙ ap (λ (t : Pair). t.pages) tie, (s.part ∙ ap (λ (t : Pair). t.copies) tie, (each, tt))))))))))))
 
 pub returns : goal.returns
 returns c =
@@ -36,4 +36,4 @@ returns c =
     let x = get_or s.path 0 (sheet 0 0 false) in
     let le : s.fed ≤ length s.path = omega (arith, s.places, s.within) in
     let some : 0 < s.fed = omega arith in
-    pop_whole (spool_of s) x _ (counted c.in-Some.stacked) (plus_is (counted s.stacked) (counted c.in-Some.stacked) x c.in-Some.ensures) (left_first s.path c.take-first.new.slots s.fed some le c.take-first.ensures.slots (sheet 0 0 false))
+    pop_whole (spool_of s) x _ (counted c.in-Some.stacked) (plus_is (counted s.stacked) (counted c.in-Some.stacked) x c.in-Some.ensures) (left_first s.path c.take_first.new.slots s.fed some le c.take_first.ensures.slots (sheet 0 0 false))

@@ -5,10 +5,10 @@ use Rattle.store.proofs.Parts.{part_of, part_in, cut_part}
 use Rattle.store.proofs.Sizes.{stands, size_within}
 use Rattle.store.proofs.overlays.Overlays.bytes_of.Goals as goal
 
-pub returns-in-default : goal.returns-in-default
-returns-in-default c =
+pub returns-in_default : goal.returns-in_default
+returns-in_default c =
     let es = (store_of c.args.self.now).entries in
-    ap (option_map (part_of c.args.memory.now)) c.in-default.ensures ∙ sym (part_in es c.args.memory.now c.args.id)
+    ap (option_map (part_of c.args.memory.now)) c.in_default.ensures ∙ sym (part_in es c.args.memory.now c.args.id)
 
 pub overflow-add-found : goal.overflow-add-found
 overflow-add-found c =

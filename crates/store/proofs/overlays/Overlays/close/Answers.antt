@@ -15,15 +15,15 @@ invariant-of-self c =
     let s = c.args.self.now in
     let e = entry c.args.id s.begun in
     let le : s.count ≤ length s.entries = omega (arith, s.places, s.few) in
-    let few = not_full s.entries s.count le (sym c.is_full.ensures ∙ c.if-is-full.false) in
+    let few = not_full s.entries s.count le (sym c.is_full.ensures ∙ c.if-is_full.false) in
     let room : s.count < length s.entries = omega (arith, s.places) in
     (length-set s.entries s.count e ∙ s.places, (omega arith, (omega (arith, s.summed, pushed_sizes s.entries s.count le e room), (omega (arith, s.fits), tt))))
 
-pub returns-then-is-full : goal.returns-then-is-full
-returns-then-is-full c =
+pub returns-then-is_full : goal.returns-then-is_full
+returns-then-is_full c =
     let s = c.args.self.now in
     let le : s.count ≤ length s.entries = omega (arith, s.places, s.few) in
-    let many = is_full s.entries s.count le (sym c.is_full.ensures ∙ c.if-is-full.true) in
+    let many = is_full s.entries s.count le (sym c.is_full.ensures ∙ c.if-is_full.true) in
     let n = table_length s.entries s.count le in
     record { store = full_by c.args.id (store_of s) (omega arith); contents = λ m few. absurd (omega arith); session = session; gapless = gapless }
 
@@ -32,7 +32,7 @@ returns c =
     let s = c.args.self.now in
     let e = entry c.args.id s.begun in
     let le : s.count ≤ length s.entries = omega (arith, s.places, s.few) in
-    let few = not_full s.entries s.count le (sym c.is_full.ensures ∙ c.if-is-full.false) in
+    let few = not_full s.entries s.count le (sym c.is_full.ensures ∙ c.if-is_full.false) in
     let room : s.count < length s.entries = omega (arith, s.places) in
     let n = table_length s.entries s.count le in
     let done = closed_by c.args.id (store_of s) _ (omega arith) (pushed s.entries s.count le e room) in

@@ -28,8 +28,8 @@ invariant-of-self c =
     let h = stands es c.args.id f (sym c.in-Some.ensures) in
     let le : s.count ≤ length s.entries = omega (arith, s.places, s.few) in
     let at : f.at < s.count = omega (arith, table_length s.entries s.count le, at_inside es c.args.id f h) in
-    let out = taken_out s.entries s.count le c.close-gap.new.slots f.at at c.close-gap.result c.close-gap.ensures.closed c.close-gap.ensures.slots in
-    let long = taken_length s.entries s.count le c.close-gap.new.slots f.at at c.close-gap.result c.close-gap.ensures.closed c.close-gap.ensures.slots in
+    let out = taken_out s.entries s.count le c.close_gap.new.slots f.at at c.close_gap.result c.close_gap.ensures.closed c.close_gap.ensures.slots in
+    let long = taken_length s.entries s.count le c.close_gap.new.slots f.at at c.close_gap.result c.close_gap.ensures.closed c.close_gap.ensures.slots in
     (long ∙ s.places, (omega (arith, s.few), (omega (arith, s.summed, ap sizes out, size_out es c.args.id f h), (omega (arith, s.fits), tt))))
 
 pub returns : goal.returns
@@ -41,5 +41,5 @@ returns c =
     let le : s.count ≤ length s.entries = omega (arith, s.places, s.few) in
     let at : f.at < s.count = omega (arith, table_length s.entries s.count le, at_inside es c.args.id f h) in
     deleted_by c.args.id (store_of s) c.args.memory.now _ _ f (omega (arith, c.if-id-gt-LAST-ID.false)) c.if-id-eq0.false (sym c.in-Some.ensures)
-    (taken_out s.entries s.count le c.close-gap.new.slots f.at at c.close-gap.result c.close-gap.ensures.closed c.close-gap.ensures.slots)
-    (c.close-up.ensures ∙ ap (λ n. closed_up c.args.memory.now n f) c.kept.ensures)
+    (taken_out s.entries s.count le c.close_gap.new.slots f.at at c.close_gap.result c.close_gap.ensures.closed c.close_gap.ensures.slots)
+    (c.close_up.ensures ∙ ap (λ n. closed_up c.args.memory.now n f) c.kept.ensures)

@@ -12,18 +12,18 @@ returns-then-self-len c =
     let way = full (path_of e) (bin_of e) (room_of e) (omega arith) (omega arith) in
     record { answer = way.answer; paper = way.paper; list = refl }
 
-pub returns-in-default : goal.returns-in-default
-returns-in-default c =
+pub returns-in_default : goal.returns-in_default
+returns-in_default c =
     let e = c.args.self.now in
-    let empty : e.held ≡ 0 = no_first e.path e.held (omega arith) c.in-default.ensures.first in
-    let way = none (path_of e) (take e.held c.take-first.new.slots) (bin_of e) (room_of e) (ap (λ n. take n e.path) empty) (ap (λ n. take n c.take-first.new.slots) empty) in
+    let empty : e.held ≡ 0 = no_first e.path e.held (omega arith) c.in_default.ensures.first in
+    let way = none (path_of e) (take e.held c.take_first.new.slots) (bin_of e) (room_of e) (ap (λ n. take n e.path) empty) (ap (λ n. take n c.take_first.new.slots) empty) in
     record { answer = way.answer; paper = way.paper; list = refl }
 
 pub returns : goal.returns
 returns c =
     let e = c.args.self.now in
     let s = c.in-Some.sheet in
-    let first = took_first e.path _ e.held s (omega arith) c.in-Some.ensures.first c.take-first.ensures.slots in
+    let first = took_first e.path _ e.held s (omega arith) c.in-Some.ensures.first c.take_first.ensures.slots in
     let more = take_more_set _ e.stacked s (omega arith) in
     let way = stacks (path_of e) _ (bin_of e) _ s (room_of e) _ first more (omega arith) in
     record { answer = way.answer; paper = way.paper; list = refl }

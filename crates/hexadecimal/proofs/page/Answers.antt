@@ -1,6 +1,6 @@
 use Rattle.std.proofs.Common.{rules}
-use Rattle.hex.specs.Hex.{page_text}
-use Rattle.hex.proofs.page.Goals as goal
+use Rattle.hexadecimal.specs.Hex.{page_text}
+use Rattle.hexadecimal.proofs.page.Goals as goal
 
 pub returns : goal.returns
 unfolding page_text

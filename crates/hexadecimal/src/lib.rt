@@ -1,6 +1,6 @@
 // Bytes as hexadecimal digits in upper case.
 ghost use Rattle.std.specs.Prelude.{◌≡◌, ◌<◌, IfOk, string_bytes, OnOk};
-ghost use Rattle.hex.specs.Hex.{hex_digit, then_byte, hex_text, page_text, spaced_hex};
+ghost use Rattle.hexadecimal.specs.Hex.{hex_digit, then_byte, hex_text, page_text, spaced_hex};
 
 use std::alloc::{AllocError, Global};
 
