@@ -9,8 +9,8 @@ loop-at-init c = (refl, omega arith)
 pub returns-then-entry-id : goal.returns-then-entry-id
 returns-then-entry-id c = here _ c.loop-at.at c.loop-at.start _ c.loop-at.invariant.0 _ (omega arith) c.if-entry-id.true
 
-pub overflow-add-start : goal.overflow-add-start
-overflow-add-start c = omega (arith, c.loop-at.invariant.1, sizes_more c.args.entries.now c.loop-at.at (entry 0 0) c.loop-at-test.true)
+pub overflow_add-start : goal.overflow_add-start
+overflow_add-start c = omega (arith, c.loop-at.invariant.1, sizes_more c.args.entries.now c.loop-at.at (entry 0 0) c.loop-at-test.true)
 
 pub loop-at-preserved : goal.loop-at-preserved
 loop-at-preserved c = (

@@ -7,11 +7,11 @@ returns-in_default c =
     let e = broke_off _ c.loop-b.b-index _ _ _ c.loop-b-test.true c.digit.ensures.value c.in_default.is c.loop-b.invariant.0 in
     search (rules, e)
 
-pub overflow-mul-n : goal.overflow-mul-n
-overflow-mul-n c = let s = small _ c.loop-b.b-index c.loop-b.invariant.1 (omega arith) in omega (arith, s)
+pub overflow_mul-n : goal.overflow_mul-n
+overflow_mul-n c = let s = small _ c.loop-b.b-index c.loop-b.invariant.1 (omega arith) in omega (arith, s)
 
-pub overflow-add-n : goal.overflow-add-n
-overflow-add-n c = let s = small _ c.loop-b.b-index c.loop-b.invariant.1 (omega arith) in search (rules, s)
+pub overflow_add-n : goal.overflow_add-n
+overflow_add-n c = let s = small _ c.loop-b.b-index c.loop-b.invariant.1 (omega arith) in search (rules, s)
 
 pub loop-b-preserved : goal.loop-b-preserved
 loop-b-preserved c =

@@ -8,8 +8,8 @@ use Rattle.spool.proofs.Calls.{owed_law}
 use Rattle.spool.proofs.Seen.{owed_is}
 use Rattle.printer.proofs.printer.Printer.owed.Goals as goal
 
-pub overflow-add-result : goal.overflow-add-result
-overflow-add-result g c =
+pub overflow_add-result : goal.overflow_add-result
+overflow_add-result g c =
     let m = g.E.Engine in
     let sound = m.sound c.args.self.now.engine in
     let few : m.most ≤ 8 = sound.few in

@@ -15,8 +15,8 @@ use Rattle.spool.proofs.Waiting.{unfed_less, unfed_first}
 use Rattle.spool.proofs.Tracked.{fed_is}
 use Rattle.spool.proofs.Feeding.{feeding, commit_last, commit_more}
 
-pub invariant-of-self : goal.invariant-of-self
-invariant-of-self c =
+pub invariant_of-self : goal.invariant_of-self
+invariant_of-self c =
     let s = c.args.self.now in
     let x = c.copy_of_first-sheet.result in
     let r = counted c.in-Some.committed in
@@ -30,8 +30,8 @@ invariant-of-self c =
     let z : r.copies ≡ 0 = ap (λ (t : Pair). t.copies) now in
     (s.fits, (left_length s.pages out s.waiting some le c.take_first.ensures.slots ∙ s.slots, (omega (arith, s.short), (f.long, (omega (arith, s.within), (omega (arith, s.paged), (less, ((λ h. omega (arith, (less 0 h).1)), (f.few, (f.pages, (f.copies, (f.each, tt))))))))))))
 
-pub invariant-of-self-else-sheet : goal.invariant-of-self-else-sheet
-invariant-of-self-else-sheet c =
+pub invariant_of-self-else-sheet : goal.invariant_of-self-else-sheet
+invariant_of-self-else-sheet c =
     let s = c.args.self.now in
     let x = c.copy_of_first-sheet.result in
     let r = counted c.in-Some.committed in

@@ -9,8 +9,8 @@ use Rattle.spool.specs.Spooled.{spooled, waiting_page, full}
 use Rattle.spool.specs.Spools.{spool_of}
 use Rattle.spool.proofs.Waiting.{UnfedIn, waiting_is, not_refused, unfed_more, first_more}
 
-pub invariant-of-self : goal.invariant-of-self
-invariant-of-self c =
+pub invariant_of-self : goal.invariant_of-self
+invariant_of-self c =
     let s = c.args.self.now in
     let n = c.args.copies.count in
     let page = waiting_page c.args.page n in

@@ -17,8 +17,8 @@ returns-in_default c =
     let some : 0 < s.fed = omega arith in
     absurd (both_ways _ (plus_fits (counted s.stacked) x c.in_default.ensures) (stack_fits s x _ (first_and_rest s.path s.fed (sheet 0 0 false) some le)))
 
-pub invariant-of-self : goal.invariant-of-self
-invariant-of-self c =
+pub invariant_of-self : goal.invariant_of-self
+invariant_of-self c =
     let s = c.args.self.now in
     let x = get_or s.path 0 (sheet 0 0 false) in
     let n = c.take_first.new.slots in

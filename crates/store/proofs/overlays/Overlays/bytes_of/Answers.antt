@@ -10,8 +10,8 @@ returns-in_default c =
     let es = (store_of c.args.self.now).entries in
     ap (option_map (part_of c.args.memory.now)) c.in_default.ensures ∙ sym (part_in es c.args.memory.now c.args.id)
 
-pub overflow-add-found : goal.overflow-add-found
-overflow-add-found c =
+pub overflow_add-found : goal.overflow_add-found
+overflow_add-found c =
     let s = c.args.self.now in
     let f = c.in-Some.found in
     omega (arith, s.summed, s.fits, size_within (store_of s).entries c.args.id f (stands (store_of s).entries c.args.id f (sym c.in-Some.ensures)))

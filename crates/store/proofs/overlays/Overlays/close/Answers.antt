@@ -10,8 +10,8 @@ use Rattle.store.proofs.Sessions.{session}
 use Rattle.store.proofs.Tables.{table_length, not_full, is_full, pushed, pushed_sizes}
 use Rattle.store.proofs.overlays.Overlays.close.Goals as goal
 
-pub invariant-of-self : goal.invariant-of-self
-invariant-of-self c =
+pub invariant_of-self : goal.invariant_of-self
+invariant_of-self c =
     let s = c.args.self.now in
     let e = entry c.args.id s.begun in
     let le : s.count ≤ length s.entries = omega (arith, s.places, s.few) in

@@ -6,22 +6,22 @@ use Rattle.store.proofs.Tables.{table_length, taken_out, taken_length}
 use Rattle.store.proofs.Calls.{deleted_by}
 use Rattle.store.proofs.overlays.Overlays.remove.Goals as goal
 
-pub overflow-sub-self : goal.overflow-sub-self
-overflow-sub-self c =
+pub overflow_sub-self : goal.overflow_sub-self
+overflow_sub-self c =
     let s = c.args.self.now in
     let es = (store_of s).entries in
     let f = c.in-Some.found in
     omega (arith, s.places, s.few, table_length s.entries s.count (omega (arith, s.places, s.few)), at_inside es c.args.id f (stands es c.args.id f (sym c.in-Some.ensures)))
 
-pub overflow-sub-self-2 : goal.overflow-sub-self-2
-overflow-sub-self-2 c =
+pub overflow_sub-self-2 : goal.overflow_sub-self-2
+overflow_sub-self-2 c =
     let s = c.args.self.now in
     let es = (store_of s).entries in
     let f = c.in-Some.found in
     omega (arith, s.summed, size_within es c.args.id f (stands es c.args.id f (sym c.in-Some.ensures)))
 
-pub invariant-of-self : goal.invariant-of-self
-invariant-of-self c =
+pub invariant_of-self : goal.invariant_of-self
+invariant_of-self c =
     let s = c.args.self.now in
     let es = (store_of s).entries in
     let f = c.in-Some.found in
@@ -40,6 +40,6 @@ returns c =
     let h = stands es c.args.id f (sym c.in-Some.ensures) in
     let le : s.count ≤ length s.entries = omega (arith, s.places, s.few) in
     let at : f.at < s.count = omega (arith, table_length s.entries s.count le, at_inside es c.args.id f h) in
-    deleted_by c.args.id (store_of s) c.args.memory.now _ _ f (omega (arith, c.if-id-gt-LAST-ID.false)) c.if-id-eq0.false (sym c.in-Some.ensures)
+    deleted_by c.args.id (store_of s) c.args.memory.now _ _ f (omega (arith, c.if-id-gt-LAST_ID.false)) c.if-id-eq0.false (sym c.in-Some.ensures)
     (taken_out s.entries s.count le c.close_gap.new.slots f.at at c.close_gap.result c.close_gap.ensures.closed c.close_gap.ensures.slots)
     (c.close_up.ensures ∙ ap (λ n. closed_up c.args.memory.now n f) c.kept.ensures)

@@ -4,8 +4,8 @@ use Rattle.engines.proofs.Filing.{files}
 use Rattle.engines.proofs.Steps.{stacks}
 use Rattle.engines.proofs.file.works.FileEngineEngine.advance.Goals as goal
 
-pub invariant-of-self : goal.invariant-of-self
-invariant-of-self c =
+pub invariant_of-self : goal.invariant_of-self
+invariant_of-self c =
     let e = c.args.self.now in
     let copied : c.copy_from_slice.new.self ≡ c.record-packed.result = search rules in
     let packed = c.record-packed.ensures in
