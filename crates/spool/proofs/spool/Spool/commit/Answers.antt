@@ -28,7 +28,20 @@ invariant_of-self c =
     let now = plus_is (counted s.committed) r x c.in-Some.ensures ∙ after_last (counted s.committed) x c.if-sheet.true in
     let p : r.pages ≡ s.committed.pages.0 + 1 = ap (λ (t : Pair). t.pages) now in
     let z : r.copies ≡ 0 = ap (λ (t : Pair). t.copies) now in
-    (s.fits, (left_length s.pages out s.waiting some le c.take_first.ensures.slots ∙ s.slots, (omega (arith, s.short), (f.long, (omega (arith, s.within), (omega (arith, s.paged), (less, ((λ h. omega (arith, (less 0 h).1)), (f.few, (f.pages, (f.copies, (f.each, tt))))))))))))
+    record {
+      fits = s.fits;
+      slots = left_length s.pages out s.waiting some le c.take_first.ensures.slots ∙ s.slots;
+      short = omega (arith, s.short);
+      places = f.long;
+      within = omega (arith, s.within);
+      paged = omega (arith, s.paged);
+      unfed = less;
+      first = (λ h. omega (arith, (less 0 h).1));
+      few = f.few;
+      whole = f.pages;
+      part = f.copies;
+      each = f.each;
+    }
 
 pub invariant_of-self-else-sheet : goal.invariant_of-self-else-sheet
 invariant_of-self-else-sheet c =
@@ -44,7 +57,20 @@ invariant_of-self-else-sheet c =
     let w = waiting_page (get_or s.pages 0 (waiting_page 0 0)).page (unfed_at s.pages 0 - 1) in
     let less : unfed_at (set s.pages 0 w) 0 ≡ unfed_at s.pages 0 - 1 = ap (λ (v : WaitingPage). v.unfed) (get_or-set_same s.pages 0 w (waiting_page 0 0) (omega (arith, s.slots))) in
     let unfed = unfed_first s.pages s.waiting (get_or s.pages 0 (waiting_page 0 0)).page u s.unfed in
-    (s.fits, (length-set s.pages 0 w ∙ s.slots, (s.short, (f.long, (omega (arith, s.within), (omega (arith, s.paged), (unfed, ((λ h. omega (arith, s.first h, (s.unfed 0 h).0, z, less)), (f.few, (f.pages, (f.copies, (f.each, tt))))))))))))
+    record {
+      fits = s.fits;
+      slots = length-set s.pages 0 w ∙ s.slots;
+      short = s.short;
+      places = f.long;
+      within = omega (arith, s.within);
+      paged = omega (arith, s.paged);
+      unfed = unfed;
+      first = (λ h. omega (arith, s.first h, (s.unfed 0 h).0, z, less));
+      few = f.few;
+      whole = f.pages;
+      part = f.copies;
+      each = f.each;
+    }
 
 pub returns-then-sheet : goal.returns-then-sheet
 returns-then-sheet c =

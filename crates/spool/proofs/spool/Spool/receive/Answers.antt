@@ -21,7 +21,20 @@ invariant_of-self c =
     let level : s.waiting ≡ 0 → s.committed.copies.0 + n ≤ 255 = λ z. elim c.else-begun.branch [ else-begun-via-then-begun+else-from-gt255 w ↦ omega (arith, w.if-from-gt255.false, w.from.ensures, w.from-then-begun.ensures, w.count.ensures) | else-begun-via-else-begun w ↦ absurd (w.if-begun.false (omega (arith, s.paged))) ] in
     let more : UnfedIn c.add.new.slots (s.waiting + 1) = subst (λ ws. UnfedIn ws (s.waiting + 1)) (sym is) (unfed_more s.pages s.waiting c.args.page n room c.args.copies.some c.args.copies.few s.unfed) in
     let first = subst (λ ws. s.committed.copies.0 + unfed_at ws 0 ≤ 255) (sym is) (first_more s.pages s.waiting c.args.page n s.committed.copies.0 room s.first level) in
-    (omega (arith, s.fits), (ap length is ∙ length-set s.pages s.waiting page ∙ s.slots, (omega (arith, s.slots), (s.places, (s.within, (omega (arith, s.paged), (more, ((λ h. first), (s.few, (s.whole, (s.part, (s.each, tt))))))))))))
+    record {
+      fits = omega (arith, s.fits);
+      slots = ap length is ∙ length-set s.pages s.waiting page ∙ s.slots;
+      short = omega (arith, s.slots);
+      places = s.places;
+      within = s.within;
+      paged = omega (arith, s.paged);
+      unfed = more;
+      first = (λ h. first);
+      few = s.few;
+      whole = s.whole;
+      part = s.part;
+      each = s.each;
+    }
 
 pub returns : goal.returns
 returns c =

@@ -28,7 +28,20 @@ invariant_of-self c =
     let is = left_first s.path n s.fed some le c.take_first.ensures.slots (sheet 0 0 false) in
     let tie = pop_tied (counted s.stacked) (counted c.in-Some.stacked) s.path n s.fed (sheet 0 0 false) er is in
     let each = pop_few (counted s.stacked) (counted c.in-Some.stacked) s.path n s.fed (sheet 0 0 false) er is some s.each in
-    (s.fits, (s.slots, (s.short, (left_length s.path n s.fed some le c.take_first.ensures.slots ∙ s.places, (omega (arith, s.within), (s.paged, (s.unfed, (s.first, (s.few, (s.whole ∙ ap (λ (t : Pair). t.pages) tie, (s.part ∙ ap (λ (t : Pair). t.copies) tie, (each, tt))))))))))))
+    record {
+      fits = s.fits;
+      slots = s.slots;
+      short = s.short;
+      places = left_length s.path n s.fed some le c.take_first.ensures.slots ∙ s.places;
+      within = omega (arith, s.within);
+      paged = s.paged;
+      unfed = s.unfed;
+      first = s.first;
+      few = s.few;
+      whole = s.whole ∙ ap (λ (t : Pair). t.pages) tie;
+      part = s.part ∙ ap (λ (t : Pair). t.copies) tie;
+      each = each;
+    }
 
 pub returns : goal.returns
 returns c =

@@ -17,7 +17,12 @@ invariant_of-self c =
     let le : s.count ≤ length s.entries = omega (arith, s.places, s.few) in
     let few = not_full s.entries s.count le (sym c.is_full.ensures ∙ c.if-is_full.false) in
     let room : s.count < length s.entries = omega (arith, s.places) in
-    (length-set s.entries s.count e ∙ s.places, (omega arith, (omega (arith, s.summed, pushed_sizes s.entries s.count le e room), (omega (arith, s.fits), tt))))
+    record {
+      places = length-set s.entries s.count e ∙ s.places;
+      few = omega arith;
+      summed = omega (arith, s.summed, pushed_sizes s.entries s.count le e room);
+      fits = omega (arith, s.fits);
+    }
 
 pub returns-then-is_full : goal.returns-then-is_full
 returns-then-is_full c =

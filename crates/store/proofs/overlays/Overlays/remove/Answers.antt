@@ -30,7 +30,12 @@ invariant_of-self c =
     let at : f.at < s.count = omega (arith, table_length s.entries s.count le, at_inside es c.args.id f h) in
     let out = taken_out s.entries s.count le c.close_gap.new.slots f.at at c.close_gap.result c.close_gap.ensures.closed c.close_gap.ensures.slots in
     let long = taken_length s.entries s.count le c.close_gap.new.slots f.at at c.close_gap.result c.close_gap.ensures.closed c.close_gap.ensures.slots in
-    (long ∙ s.places, (omega (arith, s.few), (omega (arith, s.summed, ap sizes out, size_out es c.args.id f h), (omega (arith, s.fits), tt))))
+    record {
+      places = long ∙ s.places;
+      few = omega (arith, s.few);
+      summed = omega (arith, s.summed, ap sizes out, size_out es c.args.id f h);
+      fits = omega (arith, s.fits);
+    }
 
 pub returns : goal.returns
 returns c =

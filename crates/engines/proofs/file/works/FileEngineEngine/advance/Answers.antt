@@ -10,7 +10,10 @@ invariant_of-self c =
     let copied : c.copy_from_slice.new.self ≡ c.record-packed.result = search rules in
     let packed = c.record-packed.ensures in
     let filed = files e.stacked e.bytes c.in-Some.sheet (omega arith) e.told (8 * e.stacked + 8 - 8 * e.stacked) _ _ _ (omega arith) c.as_mut_slice.ensures.value copied packed.bytes packed.back in
-    (filed.within, (filed.told, tt))
+    record {
+      within = filed.within;
+      told = filed.told;
+    }
 
 pub returns : goal.returns
 returns c =
