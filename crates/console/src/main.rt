@@ -76,7 +76,7 @@ fn main(rt: HostRuntime) -> io::Result<()> {
     let mut args = env::args(&rt)?;
     let _program = args.next();
     match args.next() {
-        Some(path) => play(Player::new(&rt, File::open(&rt, &path)?)),
-        None => play(Player::new(&rt, rt.stdin())),
+        Some(path) => play(Player::new(&rt, File::open(&rt, &path)?)?),
+        None => play(Player::new(&rt, rt.stdin())?),
     }
 }

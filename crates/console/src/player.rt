@@ -32,16 +32,16 @@ pub enum Next {
 }
 
 impl<R: Read> Player<R> {
-    pub(crate) fn new(rt: &HostRuntime, input: R) -> Player<R> {
-        Player {
-            input: BufReader::new(input),
+    pub(crate) fn new(rt: &HostRuntime, input: R) -> io::Result<Player<R>> {
+        Ok(Player {
+            input: BufReader::new(rt.alloc(), input)?,
             stdout: rt.stdout(),
             line: Vec::new(rt.alloc()),
             number: 0,
             data: Vec::new(rt.alloc()),
             out: Vec::new(rt.alloc()),
             heap: rt.alloc(),
-        }
+        })
     }
 
     pub(crate) fn flush(&mut self) -> io::Result<()> {

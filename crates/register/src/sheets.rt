@@ -51,7 +51,7 @@ pub(crate) fn print_sheets(
 // Whether the bytes are the record of the sheet wanted at this place.
 fn is_record(register: &[Page], at: usize, bytes: &[u8]) -> bool {
     match wanted(register, at) {
-        Some(s) => bytes == record(s),
+        Some(s) => bytes == record(s).as_slice(),
         None => false,
     }
 }
