@@ -31,7 +31,7 @@ pub enum Next {
     End,
 }
 
-impl<R: Read> Player<R> {
+impl<R: Read + Drop> Player<R> {
     pub(crate) fn new(rt: &HostRuntime, input: R) -> io::Result<Player<R>> {
         Ok(Player {
             input: BufReader::new(rt.alloc(), input)?,
@@ -43,7 +43,9 @@ impl<R: Read> Player<R> {
             heap: rt.alloc(),
         })
     }
+}
 
+impl<R: Read> Player<R> {
     pub(crate) fn flush(&mut self) -> io::Result<()> {
         self.stdout.write_all(&self.out)?;
         self.out.clear();

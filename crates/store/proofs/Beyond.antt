@@ -1,6 +1,6 @@
 -- Nothing beyond the bytes that are then kept is written.
 use Rattle.std.proofs.Common.{◌≡◌, ℕ, ◌+◌, ◌-◌, ◌≤◌, Bool, true, false, cond, eqb, ltb, leb, List, ◌++◌, length, take, drop, Some, None, Option, sym, refl, ap, ◌∙◌, subst, append_assoc, arith, length-append}
-use Rattle.std.proofs.lemmas.List.{drop_at, length-take-le}
+use Rattle.std.proofs.lemmas.List.{drop_at, drop-drop, length-take-le}
 use Rattle.std.proofs.lemmas.Bool.{cond_both, leb-true}
 use Rattle.queue.specs.Queues.{span_in, span_out}
 use Rattle.queue.proofs.Spans.{span_behind}
@@ -16,7 +16,8 @@ written_beyond : (m : List ℕ) (at : ℕ) (bs : List ℕ) → at + length bs �
 written_beyond m at bs le =
     let a : length (take at m) ≡ at = length-take-le at m (omega arith) in
     let b = length-append (take at m) bs in
-    ap (drop (at + length bs)) (sym (append_assoc (take at m) bs (drop (at + length bs) m)))
+    ap (λ t. drop (at + length bs) (take at m ++ (bs ++ t))) (drop-drop (length bs) at m)
+    ∙ ap (drop (at + length bs)) (sym (append_assoc (take at m) bs (drop (at + length bs) m)))
     ∙ drop_at (take at m ++ bs) (drop (at + length bs) m) (at + length bs) (omega arith)
 
 pub storing_beyond : (bs : List ℕ) (s : Store) (m : List ℕ) → Beyond m (storing bs s m)
