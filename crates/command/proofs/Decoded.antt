@@ -1,9 +1,8 @@
 -- What is decoded in a state is the command in the bytes.
-use Rattle.std.proofs.Common.{◌≡◌, ℕ, Bool, true, false, cond, List, length, Some, None, Ok, Err, Option, Result, sym, refl, ap, ◌∙◌, arith}
+use Rattle.std.proofs.Common.{◌≡◌, ℕ, Bool, true, false, cond, List, length, Some, None, Ok, Err, Option, ap, ◌∙◌, arith}
 use Rattle.command.specs.declared.header.Header.{Header}
 use Rattle.command.specs.declared.state.State.{State}
 use Rattle.command.specs.declared.state.Command.{Command}
-use Rattle.command.specs.declared.refusal.Refusal.{Refusal}
 use Rattle.command.specs.declared.refusal.Refusal.TheVariants.{DataLength, NotAccepted, NotAllowed}
 use Rattle.command.specs.declared.table.Row.{Row}
 use Rattle.command.specs.Headers.{header_of, plain_flag, data_of}

@@ -1,5 +1,5 @@
 -- Only the code of End Page makes an End Page.
-use Rattle.std.proofs.Common.{◌≡◌, ℕ, Bool, true, false, cond, eqb, List, [], ◌∷◌, Some, None, Ok, Err, Option, Result, sym, refl, ap, ◌∙◌, arith}
+use Rattle.std.proofs.Common.{◌≡◌, ℕ, Bool, true, false, cond, eqb, List, [], ◌∷◌, Some, None, Ok, Err, Option, refl, arith}
 use Rattle.command.specs.declared.header.Header.{Header}
 use Rattle.command.specs.declared.refusal.Refusal.TheVariants.{NotAccepted}
 use Rattle.command.specs.declared.state.State.{State}

@@ -6,7 +6,7 @@
 --   decoded     the command that a header and its data make in a state: refused for its code, the state,
 --               its data length, its flag, and then for what its data says
 --   command_in   the command in a sequence of bytes, whatever the state
-use Rattle.std.specs.Prelude.{ℕ, ◌+◌, ◌*◌, Bool, true, false, cond, List, [], ◌∷◌, length, Some, None, Ok, Err, Option, Result, ◌==◌}
+use Rattle.std.specs.Prelude.{ℕ, ◌+◌, ◌*◌, cond, List, [], ◌∷◌, length, Some, None, Ok, Err, Option, Result, ◌==◌}
 use Rattle.command.specs.declared.header.Header.{Header}
 use Rattle.command.specs.declared.state.State.{State}
 use Rattle.command.specs.declared.state.Command.{Command}

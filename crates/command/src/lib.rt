@@ -1,4 +1,6 @@
 // IPDS commands: their header, the table of their codes, their data, and why they are refused.
+#![tactic(auto)]
+
 mod decoding;
 mod header;
 mod reading;

@@ -1,4 +1,6 @@
 // Text for a page: what a host puts into a Write Text command.
+#![tactic(auto)]
+
 mod builder;
 mod ebcdic;
 

@@ -1,4 +1,6 @@
 // Plays a script of calls, one a line, from the standard input or from the file that is named, and answers each.
+#![tactic(auto)]
+
 mod buffers;
 mod calls;
 mod player;

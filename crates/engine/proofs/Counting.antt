@@ -1,11 +1,11 @@
 -- A tally that is counted sheet by sheet.
-use Rattle.std.proofs.Common.{◌≡◌, ℕ, ◌+◌, ◌<◌, ◌≤◌, Bool, true, false, cond, ltb, List, [], ◌∷◌, length, get_or, drop, Some, None, Option, sym, refl, ap, ◌∙◌, arith}
+use Rattle.std.proofs.Common.{◌≡◌, ℕ, ◌+◌, ◌<◌, ◌≤◌, Bool, true, false, cond, ltb, List, ◌∷◌, length, get_or, drop, Some, None, Option, sym, refl, ap, ◌∙◌, arith}
 use Rattle.std.specs.Option.{option_map}
 use Rattle.std.proofs.lemmas.List.{at_drop_more, at_drop_all}
 use Rattle.std.proofs.lemmas.Bool.{lt-ltb}
 use Rattle.engine.specs.declared.sheet.Sheet.{Sheet}
 use Rattle.engine.specs.declared.count.Tally.{Tally}
-use Rattle.engine.specs.Sheets.{Pair, pair, after}
+use Rattle.engine.specs.Sheets.{Pair, after}
 use Rattle.engine.specs.Tallies.{counted, fits, plus_of, tally_in}
 
 -- the rest of the tally, once a sheet was counted or not

@@ -7,7 +7,7 @@
 --   advanced   what an advance answers
 --   purged     the paper with the path emptied
 --   Sound      what holds of every engine: K is from 1 to 8, and the path holds at most K sheets
-use Rattle.std.specs.Prelude.{◌≡◌, ℕ, zero, suc, ◌<◌, ◌≤◌, Bool, cond, List, [], ◌∷◌, ◌++◌, length, nat_lt}
+use Rattle.std.specs.Prelude.{ℕ, zero, suc, ◌<◌, ◌≤◌, Bool, cond, List, [], ◌∷◌, ◌++◌, length, nat_lt}
 use Rattle.engine.specs.declared.sheet.Sheet.{Sheet}
 use Rattle.engine.specs.declared.sheet.Advanced.{Advanced}
 use Rattle.engine.specs.declared.sheet.Advanced.TheVariants.{Stacked, PathEmpty, BinFull}

@@ -5,7 +5,7 @@
 --   onward    a pair with a list of sheets counted
 --   tally     the pair of a list of sheets
 --   Tallied   what the tally of a list says in words
-use Rattle.std.specs.Prelude.{◌≡◌, ℕ, ◌+◌, ◌<◌, ◌≤◌, Bool, true, false, cond, ◌⊎◌, List, [], ◌∷◌, ◌++◌, length}
+use Rattle.std.specs.Prelude.{◌≡◌, ℕ, ◌+◌, ◌<◌, ◌≤◌, true, false, cond, ◌⊎◌, List, [], ◌∷◌, ◌++◌, length}
 use Rattle.engine.specs.declared.sheet.Sheet.{Sheet}
 
 pub record Pair : Type 0 where

@@ -2,7 +2,7 @@
 --   counted   a tally's two counts as numbers
 --   plus_of    a tally with one more sheet, where its counts can hold it
 --   tally_in   a tally with a list of sheets, where its counts can hold them
-use Rattle.std.specs.Prelude.{ℕ, ◌+◌, Bool, true, false, cond, ◌&&◌, List, [], ◌∷◌, Some, None, Option, nat_lt}
+use Rattle.std.specs.Prelude.{Bool, cond, List, [], ◌∷◌, Some, None, Option, nat_lt}
 use Rattle.engine.specs.declared.sheet.Sheet.{Sheet}
 use Rattle.engine.specs.declared.count.Tally.{Tally}
 use Rattle.engine.specs.Sheets.{Pair, pair, after}

@@ -1,4 +1,6 @@
 // Sheets of paper, how they are counted, and what a print engine does with them.
+#![tactic(auto)]
+
 mod count;
 mod count_of;
 mod engine;

@@ -1,4 +1,6 @@
 // Print engines: one that stacks sheets in a list, and one that stacks them as records of bytes.
+#![tactic(auto)]
+
 mod file;
 mod pack;
 mod track;

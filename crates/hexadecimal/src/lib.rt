@@ -1,4 +1,6 @@
 // Bytes as hexadecimal digits in upper case.
+#![tactic(auto)]
+
 ghost use Rattle.std.specs.Prelude.{◌≡◌, ◌<◌, IfOk, string_bytes, OnOk};
 ghost use Rattle.hexadecimal.specs.Hex.{hex_digit, then_byte, hex_text, page_text, spaced_hex};
 

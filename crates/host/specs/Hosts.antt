@@ -5,7 +5,7 @@
 --   end_overlay       the end of an overlay, without a request
 --   reply_in    the counters in a reply, and the refusal's number in a negative one
 --   next_in     the job rule: the page behind those received, less its committed copies where none waits
-use Rattle.std.specs.Prelude.{ℕ, ◌+◌, ◌-◌, ◌*◌, ◌/◌, ◌%◌, Bool, true, false, cond, List, [], ◌∷◌, length, Some, None, Option, ◌==◌, nat_lt, slice_index, slice_index_or}
+use Rattle.std.specs.Prelude.{ℕ, ◌+◌, ◌-◌, ◌*◌, ◌/◌, ◌%◌, Bool, true, cond, List, [], ◌∷◌, length, Some, None, Option, ◌==◌, nat_lt, slice_index, slice_index_or}
 use Rattle.host.specs.declared.job.Page.{Page}
 use Rattle.host.specs.declared.reply.Reply.{Reply}
 

@@ -1,4 +1,6 @@
 // What a host needs to print a job: command bytes, the reading of replies, and the job rule.
+#![tactic(auto)]
+
 mod commands;
 mod job;
 mod reply;

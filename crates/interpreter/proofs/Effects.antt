@@ -1,5 +1,5 @@
 -- A take touches sheets and counters only by its effect, and its reply gives the counters.
-use Rattle.std.proofs.Common.{◌≡◌, ℕ, ◌<◌, ◌≤◌, Bool, true, false, cond, eqb, ltb, leb, List, [], ◌∷◌, ◌++◌, length, take, drop, Some, None, Ok, Err, Option, Result, sym, refl, ap, ◌∙◌, subst, arith}
+use Rattle.std.proofs.Common.{◌≡◌, ℕ, ◌≤◌, Bool, true, false, cond, ltb, List, length, take, Some, None, Ok, Err, Option, Result, sym, refl, ap, subst, arith}
 use Rattle.std.proofs.lemmas.Bool.{ltb-false, le-leb, cond-true}
 use Rattle.command.specs.declared.header.Header.{Header}
 use Rattle.command.specs.declared.refusal.Fault.{Fault}
@@ -7,9 +7,8 @@ use Rattle.command.specs.declared.refusal.Refusal.{Refusal}
 use Rattle.command.specs.declared.refusal.Refusal.TheVariants.{Incomplete, AreaShort, SixteenWait, ReplyPending}
 use Rattle.command.specs.Headers.{header_of, in_range, asks_reply, data_of}
 use Rattle.command.specs.Commands.{command_in}
-use Rattle.spool.specs.Spooled.{Spooled}
 use Rattle.spool.specs.Spools.{Numbers, numbers_of}
-use Rattle.spool.specs.Receivers.{Effect, nothing, closing, done_by}
+use Rattle.spool.specs.Receivers.{nothing, closing, done_by}
 use Rattle.spool.specs.Runs.{Replies}
 use Rattle.reply.specs.Replies.{ack, nack, written}
 use Rattle.interpreter.specs.Machines.{Machine, home, pend, receiver_of}

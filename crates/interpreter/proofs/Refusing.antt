@@ -1,5 +1,5 @@
 -- Where the checks of a take end.
-use Rattle.std.proofs.Common.{◌≡◌, ℕ, ◌≤◌, Bool, true, false, cond, ltb, List, length, Some, sym, refl, ap, ◌∙◌}
+use Rattle.std.proofs.Common.{◌≡◌, ℕ, ◌≤◌, false, List, length, Some, ap, ◌∙◌}
 use Rattle.std.proofs.lemmas.Bool.{le-ltb, cond-false}
 use Rattle.command.specs.declared.header.Header.{Header}
 use Rattle.command.specs.Headers.{header_of, in_range}

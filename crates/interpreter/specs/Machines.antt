@@ -10,7 +10,7 @@ use Rattle.command.specs.declared.refusal.Fault.{Fault}
 use Rattle.command.specs.declared.state.State.{State}
 use Rattle.command.specs.declared.state.State.TheVariants.{Home, Page}
 use Rattle.spool.specs.declared.spool.Spool.{Spool}
-use Rattle.spool.specs.Spooled.{Spooled, empty, jam}
+use Rattle.spool.specs.Spooled.{Spooled, empty}
 use Rattle.spool.specs.Spools.{spool_of}
 use Rattle.spool.specs.Receivers.{Receiver, receiver}
 use Rattle.interpreter.specs.declared.interpreter.Interpreter.{Interpreter}

@@ -2,7 +2,6 @@
 --   number_told   0 for accepted, else the refusal's number
 --   told         the bytes used, the outcome, the reply's length and the marks on the open or latest page
 use Rattle.std.specs.Prelude.{ℕ}
-use Rattle.command.specs.declared.refusal.Refusal.{Refusal}
 use Rattle.command.specs.Refusals.{number_of}
 use Rattle.interpreter.specs.declared.taken.Outcome.{Outcome}
 use Rattle.interpreter.specs.declared.taken.Outcome.TheVariants.{Accepted, Refused}

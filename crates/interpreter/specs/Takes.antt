@@ -15,7 +15,6 @@ use Rattle.spool.specs.Runs.{Meaning}
 use Rattle.interpreter.specs.declared.taken.Outcome.{Outcome}
 use Rattle.interpreter.specs.declared.taken.Outcome.TheVariants.{Accepted, Refused}
 use Rattle.interpreter.specs.declared.taken.Taken.{Taken}
-use Rattle.interpreter.specs.Taking.{Taking}
 
 pub record Take : Type 0 where
   pub bytes : List ℕ

@@ -8,7 +8,7 @@
 --                is pending
 --   take_of       the checks in their order
 --   jammed       paper was lost: what waits and what is open is dropped, and this fault is pending instead of any other
-use Rattle.std.specs.Prelude.{ℕ, Bool, true, false, cond, List, length, Some, None, Ok, Err, Option, Result, ◌==◌, nat_lt}
+use Rattle.std.specs.Prelude.{ℕ, Bool, false, cond, List, length, Some, None, Ok, Err, Option, Result, ◌==◌, nat_lt}
 use Rattle.std.specs.Option.{unwrap_or}
 use Rattle.command.specs.declared.header.Header.{Header}
 use Rattle.command.specs.declared.refusal.Fault.{Fault}

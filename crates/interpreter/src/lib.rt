@@ -1,4 +1,6 @@
 // Obeys or refuses the commands of a host, one at a time.
+#![tactic(auto)]
+
 mod interpreter;
 mod taken;
 

@@ -1,5 +1,7 @@
 // Drives a printer end through 65,535 pages, and shows that the end of one more is refused. The lines are those of
 // the console.
+#![tactic(auto)]
+
 use engine::Sheet;
 use engines::TrackEngine;
 use host::{begin_page, end_page};

@@ -9,7 +9,7 @@
 --   memory_line     bytes of the memory: their address, how many they are, and what they are
 --   flag_text       a yes as 1, a no as 0
 --   sheet_line      a sheet, between words: its page, its copy, and whether that copy is the page's last
-use Rattle.std.specs.Prelude.{ℕ, Bool, cond, List, ◌∷◌, ◌++◌, length, ℤ, codes, decimal}
+use Rattle.std.specs.Prelude.{ℕ, Bool, cond, List, ◌++◌, length, ℤ, codes, decimal}
 use Rattle.std.specs.Fmt.{signed_decimal}
 use Rattle.hexadecimal.specs.Hex.{page_text, spaced_hex}
 

@@ -1,4 +1,6 @@
 // The lines that answer a script, each made with its newline.
+#![tactic(auto)]
+
 mod answers;
 mod plain;
 mod sheets;

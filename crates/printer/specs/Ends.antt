@@ -7,7 +7,7 @@
 --   turned_times  so many turns in a row
 --   turn_told     what a turn answers
 --   jammed       a jam: the path is purged
-use Rattle.std.specs.Prelude.{ℕ, zero, suc, List, [], Option}
+use Rattle.std.specs.Prelude.{ℕ, zero, suc, List, []}
 use Rattle.engine.specs.declared.sheet.Sheet.{Sheet}
 use Rattle.engine.specs.Engines.{Paper, paper, advanced, purged}
 use Rattle.spool.specs.declared.page.Turned.{Turned}

@@ -4,7 +4,7 @@
 --   Stands     what stands of a printer end after a run
 --   Keeps      what stood before a call stands after it, of the run with that call
 --   Turns      so many turns in a row
-use Rattle.std.specs.Prelude.{◌≡◌, ℕ, ◌+◌, ◌≤◌, List, ◌++◌, length}
+use Rattle.std.specs.Prelude.{ℕ, List}
 use Rattle.engine.specs.declared.sheet.Sheet.{Sheet}
 use Rattle.engine.specs.declared.engine.Engine.{Ghosts}
 use Rattle.engine.specs.Engines.{Paper, paper}

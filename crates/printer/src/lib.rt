@@ -1,4 +1,6 @@
 // A printer end over any engine.
+#![tactic(auto)]
+
 mod feeding;
 mod printer;
 

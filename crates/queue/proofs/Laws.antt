@@ -1,7 +1,7 @@
 -- What the operations leave of the queue itself, and of the places behind it.
-use Rattle.std.proofs.Common.{◌≡◌, ℕ, zero, suc, ◌+◌, ◌-◌, ◌<◌, ◌≤◌, true, cond, List, [], ◌∷◌, ◌++◌, length, get_or, take, drop, Some, None, Option, sym, refl, ap, ◌∙◌, append_assoc, arith, length-append}
+use Rattle.std.proofs.Common.{◌≡◌, ℕ, ◌+◌, ◌-◌, ◌<◌, ◌≤◌, true, cond, List, ◌∷◌, ◌++◌, length, get_or, take, drop, Some, sym, ap, ◌∙◌, append_assoc, arith, length-append}
 use borrow.Rule.Slice.PartMut.{put_mid}
-use Rattle.std.proofs.lemmas.List.{take-take, drop-drop, take_at, drop_at, take_all, take-append-le, length-take-le, length-drop, drop_more, get_or-take, take-append-drop, drop-take}
+use Rattle.std.proofs.lemmas.List.{take-take, drop-drop, take_at, length-take-le, length-drop, drop_more, get_or-take}
 use Rattle.std.proofs.lemmas.Slice.{between_is}
 use Rattle.std.proofs.lemmas.Bool.{lt-ltb, le-leb, cond-true}
 use Rattle.queue.specs.Queues.{gap_in, closed, head_of, first_of}

@@ -4,7 +4,7 @@
 --   first_of  the first element of the queue
 --   span_in   there are so many elements from this place of the queue on
 --   span_out  the slice once these are out, the later ones moved down; the places that are freed keep their content
-use Rattle.std.specs.Prelude.{ℕ, zero, suc, ◌+◌, ◌-◌, Bool, true, false, cond, List, [], ◌∷◌, ◌++◌, length, take, drop, Some, None, Option, nat_le, nat_lt}
+use Rattle.std.specs.Prelude.{ℕ, ◌+◌, ◌-◌, Bool, false, cond, List, [], ◌∷◌, ◌++◌, length, take, drop, Some, None, Option, nat_le, nat_lt}
 
 abbrev pub gap_in : {A : Type 0} → List A → ℕ → ℕ → Bool
 gap_in xs count at = cond (nat_lt at count) (nat_le count (length xs)) false

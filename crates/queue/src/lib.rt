@@ -1,5 +1,7 @@
 // A queue is the first `count` places of a slice; the places behind them are free.
 // A count beyond the slice is refused, so no call asks anything of its caller.
+#![tactic(auto)]
+
 ghost use Rattle.std.specs.Prelude.{◌≡◌, ◌+◌, ◌<◌, ◌≤◌, length, if◌then◌else◌, nat_lt, slice_set};
 ghost use Rattle.queue.specs.Queues.{closed, gap_in, first_of, span_in, span_out};
 

@@ -1,4 +1,6 @@
 // Why a command is refused: the grounds, their numbers, and what the host is told of each.
+#![tactic(auto)]
+
 ghost use Rattle.std.specs.Prelude.{◌≡◌};
 ghost use Rattle.refusal.specs.Refusals.{number_of, layer_of, exception_of, names_overlay};
 

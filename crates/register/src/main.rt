@@ -1,5 +1,7 @@
 // Prints a register of six pages through a paper jam, first on the track engine, then on the file engine, and
 // tells each step.
+#![tactic(auto)]
+
 mod console;
 mod session;
 mod sheets;

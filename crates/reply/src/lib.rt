@@ -1,4 +1,6 @@
 // Replies to the host: acknowledgements, and negative ones with their sense bytes.
+#![tactic(auto)]
+
 mod bytes;
 mod writing;
 

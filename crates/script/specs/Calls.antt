@@ -9,7 +9,7 @@
 --   followed   what a first word says with what follows it
 --   spoken     what a first word says, whether more follows it or not
 --   said_of     what a line says: None where it is malformed
-use Rattle.std.specs.Prelude.{ℕ, ◌-◌, Bool, cond, List, [], length, Some, None, codes, Option, nat_le}
+use Rattle.std.specs.Prelude.{ℕ, ◌-◌, cond, List, [], length, Some, None, codes, Option, nat_le}
 use Rattle.std.specs.Str.{bytes_eq}
 use Rattle.words.specs.Numerals.{and_then, only, number_of, up_to, bytes_of}
 use Rattle.words.specs.Words.{word_of, rest_of, skipped}

@@ -1,22 +1,17 @@
 -- Each call of a run keeps what stands.
-use Rattle.std.proofs.Common.{◌≡◌, ℕ, zero, suc, ◌+◌, ◌<◌, ◌≤◌, Bool, true, false, cond, List, [], ◌∷◌, ◌++◌, length, Some, None, Option, sym, refl, ap, ◌∙◌, subst, append_assoc, arith, length-append}
+use Rattle.std.proofs.Common.{◌≡◌, ℕ, ◌<◌, ◌≤◌, List, [], ◌++◌, length, Some, None, Option, sym, refl, ap, ◌∙◌, subst, arith}
 use Rattle.engine.specs.declared.sheet.Sheet.{Sheet}
-use Rattle.engine.specs.declared.sheet.Advanced.{Advanced}
 use Rattle.engine.specs.Engines.{paper, advanced}
-use Rattle.engine.specs.Sheets.{Pair, tally}
-use Rattle.spool.specs.declared.page.WaitingPage.{WaitingPage}
+use Rattle.engine.specs.Sheets.{tally}
 use Rattle.spool.specs.declared.page.Counters.{Counters}
 use Rattle.spool.specs.declared.page.Turned.{Turned}
-use Rattle.spool.specs.Jobs.{Page, Proper, numbered, job_sheets, begun}
-use Rattle.spool.specs.Spooled.{Spooled, empty, waiting_sheets, unfed_in}
-use Rattle.spool.specs.Spools.{Numbers, numbers, numbers_of, told, bytes_of, Whole}
-use Rattle.spool.specs.Flows.{Flow, flow, turn, turned, owed}
+use Rattle.spool.specs.Spooled.{Spooled, empty}
+use Rattle.spool.specs.Spools.{Numbers, numbers, numbers_of, told, Whole}
+use Rattle.spool.specs.Flows.{owed}
 use Rattle.spool.specs.Views.{View, view, waits, flow_of, advance_v, feeds_v, turn_v}
-use Rattle.spool.specs.Courses.{Course, later, step, bin_of, stacked_of, path_of, committed_of, received_of, begun_of, waiting_of, Holds}
+use Rattle.spool.specs.Courses.{Course, later, step, stacked_of, path_of, committed_of, received_of, Holds}
 use Rattle.spool.specs.Receivers.{Receiver, Effect, nothing, setting, opening, ending, closing, clearing, end_by, done_by, Station, station, receiver_of, with_receiver, jam_s}
-use Rattle.spool.specs.Runs.{Meaning, Run, made, Call, took, counted, owing, open_by, open_page, copies_by, copies_in_force, end_event, event_by, course, stacked, path, waiting, received, owed_by, counters, flow_by, Receiving, Replies, Stands, after_still, after_turn_law, after_jam_law}
-use Rattle.spool.proofs.Jobs.{upto_all}
-use Rattle.spool.proofs.Flowing.{flow_turn, flow_fed}
+use Rattle.spool.specs.Runs.{Meaning, Run, made, took, counted, owing, open_by, open_page, copies_by, copies_in_force, end_event, event_by, course, path, owed_by, counters, Replies, Stands, after_still, after_turn_law, after_jam_law}
 use Rattle.spool.proofs.Turns.{turn_holds}
 use Rattle.spool.proofs.Events.{made_holds, same_holds, page_holds, discard_holds, jam_holds}
 

@@ -1,9 +1,9 @@
 -- Turns in a row bring all that is owed into the bin.
-use Rattle.std.proofs.Common.{◌≡◌, ℕ, zero, suc, ◌+◌, ◌-◌, ◌<◌, ◌≤◌, Bool, true, false, cond, ltb, ◌⊎◌, List, [], ◌∷◌, ◌++◌, length, sym, refl, ap, ◌∙◌, subst, inl, inr, append_assoc, append-nil, add-one, arith, length-append}
+use Rattle.std.proofs.Common.{◌≡◌, ℕ, zero, suc, ◌+◌, ◌<◌, ◌≤◌, Bool, true, false, cond, ◌⊎◌, List, [], ◌∷◌, ◌++◌, length, sym, refl, ap, ◌∙◌, inl, inr, append_assoc, append-nil, add-one, arith, length-append}
 use Rattle.std.proofs.lemmas.Bool.{ltb-false}
 use Rattle.engine.specs.declared.sheet.Sheet.{Sheet}
 use Rattle.engine.specs.Engines.{Paper, paper, put, taken}
-use Rattle.spool.specs.Flows.{Flow, flow, feed, turn, turns, owed}
+use Rattle.spool.specs.Flows.{Flow, flow, feed, turns, owed}
 
 -- a feed loses nothing, and leaves the path empty only where nothing waits
 record Live (p : Paper) (ws : List Sheet) (c : Flow) : Type 0 where

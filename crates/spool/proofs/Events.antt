@@ -1,11 +1,11 @@
 -- The making, a page, a discard and a jam keep what holds.
-use Rattle.std.proofs.Common.{◌≡◌, ℕ, zero, suc, ◌+◌, ◌-◌, ◌<◌, ◌≤◌, Bool, true, false, cond, eqb, ◌⊎◌, List, [], ◌∷◌, ◌++◌, length, get_or, take, sym, refl, ap, ◌∙◌, subst, inl, inr, append_assoc, append-nil, zero-add, arith}
-use Rattle.std.proofs.lemmas.Bool.{eq-eqb, ne_eqb}
+use Rattle.std.proofs.Common.{◌≡◌, ℕ, ◌+◌, ◌-◌, ◌<◌, ◌≤◌, cond, List, [], ◌∷◌, ◌++◌, length, get_or, take, sym, refl, ap, ◌∙◌, subst, inr, append_assoc, append-nil, arith}
+use Rattle.std.proofs.lemmas.Bool.{eq-eqb}
 use Rattle.engine.specs.declared.sheet.Sheet.{Sheet}
 use Rattle.engine.specs.Engines.{paper}
-use Rattle.engine.specs.Sheets.{Pair, pair, tally}
+use Rattle.engine.specs.Sheets.{Pair, tally}
 use Rattle.spool.specs.declared.page.WaitingPage.{WaitingPage}
-use Rattle.spool.specs.Jobs.{Page, page as page_of, blank, Proper, numbered, page_sheets, job_sheets, begun, upto, so_far}
+use Rattle.spool.specs.Jobs.{Page, page as page_of, blank, numbered, page_sheets, job_sheets, begun, upto, so_far}
 use Rattle.spool.specs.Spooled.{Spooled, empty, waiting_page, waiting_sheets, receive, discard}
 use Rattle.spool.specs.Spools.{Whole}
 use Rattle.spool.specs.Views.{View, view, waits, jam_v}

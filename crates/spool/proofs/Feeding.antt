@@ -1,5 +1,5 @@
 -- The next copy, and what a spool holds once it is fed.
-use Rattle.std.proofs.Common.{◌≡◌, ℕ, zero, suc, ◌+◌, ◌-◌, ◌<◌, ◌≤◌, Bool, true, false, cond, eqb, List, [], ◌∷◌, ◌++◌, length, get_or, take, drop, set, Some, None, Option, sym, refl, ap, ◌∙◌, subst, arith}
+use Rattle.std.proofs.Common.{◌≡◌, ℕ, zero, suc, ◌+◌, ◌-◌, ◌<◌, ◌≤◌, Bool, true, false, cond, eqb, List, [], ◌∷◌, ◌++◌, length, get_or, take, drop, set, Some, None, sym, refl, ap, ◌∙◌, subst, arith}
 use Rattle.std.proofs.lemmas.Bool.{eqb-false, lt-ltb, le-ltb}
 use Rattle.std.proofs.lemmas.List.{take_more_set, length-set}
 use Rattle.queue.proofs.Laws.{first_and_rest}
@@ -10,7 +10,7 @@ use Rattle.engine.proofs.Counting.{fits_is, plus_is}
 use Rattle.spool.specs.declared.page.WaitingPage.{WaitingPage}
 use Rattle.spool.specs.declared.spool.Spool.{Spool}
 use Rattle.spool.specs.Waits.{unfed_at}
-use Rattle.spool.specs.Spooled.{Spooled, spooled, waiting_page, next_sheet, free, next_at, fed_pages, commit_at, commit}
+use Rattle.spool.specs.Spooled.{Spooled, spooled, waiting_page, next_sheet, free, next_at, commit_at, commit}
 use Rattle.spool.specs.Spools.{spool_of}
 use Rattle.spool.proofs.Tracked.{fed_is, tied, push_tied, push_few}
 

@@ -1,5 +1,5 @@
 -- Fronts of a job: a front of its sheets is where its tally says.
-use Rattle.std.proofs.Common.{◌≡◌, ℕ, zero, suc, ◌+◌, ◌-◌, ◌<◌, ◌≤◌, Bool, true, false, cond, List, [], ◌∷◌, ◌++◌, length, get_or, take, drop, sym, refl, ap, ◌∙◌, subst, append_assoc, append-nil, add-zero, zero-add, arith, take-append-drop}
+use Rattle.std.proofs.Common.{◌≡◌, ℕ, zero, suc, ◌+◌, ◌<◌, ◌≤◌, true, false, List, [], ◌∷◌, ◌++◌, length, get_or, take, drop, sym, refl, ap, ◌∙◌, append_assoc, append-nil, add-zero, zero-add, arith, take-append-drop}
 use Rattle.std.proofs.lemmas.List.{take_all, take_more, get_or_past}
 use Rattle.engine.specs.declared.sheet.Sheet.{Sheet}
 use Rattle.engine.specs.Sheets.{Pair, pair, after, onward, tally}

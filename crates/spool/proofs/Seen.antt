@@ -1,18 +1,17 @@
 -- What calls answer and leave, by the run alone.
 use Rattle.std.proofs.Common.{◌≡◌, ℕ, zero, suc, ◌+◌, ◌≤◌, Bool, List, [], ◌∷◌, ◌++◌, length, sym, refl, ap, ◌∙◌, append_assoc, arith, length-append}
-use Rattle.engine.specs.declared.sheet.Sheet.{Sheet}
 use Rattle.engine.specs.declared.sheet.Advanced.{Advanced}
-use Rattle.engine.specs.Engines.{Paper, paper, advanced}
+use Rattle.engine.specs.Engines.{paper, advanced}
 use Rattle.spool.specs.declared.page.WaitingPage.{WaitingPage}
 use Rattle.spool.specs.declared.page.Turned.{Turned}
 use Rattle.spool.specs.Jobs.{Page, Proper, numbered, job_sheets}
 use Rattle.spool.specs.Spooled.{waiting_sheets, unfed_in}
 use Rattle.spool.specs.Spools.{Whole}
-use Rattle.spool.specs.Flows.{Flow, flow, turn, turned, owed}
+use Rattle.spool.specs.Flows.{flow, turn, turned, owed}
 use Rattle.spool.specs.Views.{View, waits, flow_of, advance_v, feeds_v, turn_v}
 use Rattle.spool.specs.Courses.{bin_of, stacked_of, path_of, received_of, begun_of, waiting_of}
 use Rattle.spool.specs.Receivers.{Station}
-use Rattle.spool.specs.Runs.{Meaning, Run, course, stacked, path, waiting, received, owed_by, flow_by, Receiving, Stands, after_turn_law}
+use Rattle.spool.specs.Runs.{Meaning, Run, course, stacked, path, received, owed_by, flow_by, Receiving, Stands, after_turn_law}
 use Rattle.spool.proofs.Jobs.{upto_all}
 use Rattle.spool.proofs.Flowing.{flow_turn, flow_fed}
 

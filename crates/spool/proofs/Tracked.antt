@@ -1,5 +1,5 @@
 -- What is committed is what is stacked and then the sheets in the path.
-use Rattle.std.proofs.Common.{◌≡◌, ℕ, zero, suc, ◌+◌, ◌-◌, ◌<◌, ◌≤◌, Bool, true, false, cond, ◌⊎◌, List, [], ◌∷◌, ◌++◌, length, get_or, take, drop, set, sym, refl, ap, ◌∙◌, subst, inl, inr, arith}
+use Rattle.std.proofs.Common.{◌≡◌, ℕ, suc, ◌+◌, ◌-◌, ◌<◌, ◌≤◌, true, ◌⊎◌, List, [], ◌∷◌, length, get_or, take, set, sym, refl, ap, ◌∙◌, subst, inl, inr, arith}
 use Rattle.std.proofs.lemmas.Bool.{cases_eq}
 use Rattle.std.proofs.lemmas.List.{take-take, take_more_set, take-set-le, length-take-le}
 use Rattle.engine.specs.declared.sheet.Sheet.{Sheet}
@@ -9,7 +9,6 @@ use Rattle.engine.proofs.Tallying.{onward_append, onward_pages, after_last}
 use Rattle.engine.proofs.Counting.{fits_is}
 use Rattle.spool.specs.declared.spool.Spool.{Spool}
 use Rattle.spool.specs.Spooled.{Spooled, spooled, stack_at, stack}
-use Rattle.spool.specs.Spools.{spool_of}
 
 pub fed_is : (s : Spool) → length (take s.fed s.path) ≡ s.fed
 fed_is s = length-take-le s.fed s.path (omega (arith, s.places, s.within))

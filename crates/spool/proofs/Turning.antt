@@ -1,15 +1,13 @@
 -- What an advance and a feed do to the sheets of an engine and its spool.
-use Rattle.std.proofs.Common.{◌≡◌, ℕ, zero, suc, ◌+◌, ◌-◌, ◌<◌, ◌≤◌, Bool, true, false, cond, eqb, ltb, List, [], ◌∷◌, ◌++◌, length, Some, None, sym, refl, ap, ◌∙◌, subst, append_assoc, append-nil, arith}
+use Rattle.std.proofs.Common.{◌≡◌, ℕ, zero, suc, ◌+◌, ◌-◌, ◌<◌, ◌≤◌, Bool, true, false, cond, eqb, List, [], ◌∷◌, ◌++◌, length, None, sym, refl, ap, ◌∙◌, append_assoc, append-nil, arith}
 use Rattle.std.proofs.lemmas.Bool.{eq-eqb, ne_eqb, le-ltb, ltb-false}
 use Rattle.engine.specs.declared.sheet.Sheet.{Sheet}
 use Rattle.engine.specs.Sheets.{Pair, pair, after, onward}
-use Rattle.engine.specs.Engines.{Paper, paper, put, taken, advance_at, advance, advanced_at, advanced}
+use Rattle.engine.specs.Engines.{Paper, paper, put, taken, advance_at, advanced_at, advanced}
 use Rattle.spool.specs.declared.page.WaitingPage.{WaitingPage}
 use Rattle.spool.specs.Jobs.{sheet, numbered}
 use Rattle.spool.specs.Spooled.{Spooled, waiting_page, waiting_sheets, next_sheet, free, next_at, fed_pages, commit_at, stack_at, stack}
-use Rattle.spool.specs.Spools.{Unfed}
-use Rattle.spool.specs.Flows.{Flow, flow, feed, feeds, turn, turned}
-use Rattle.spool.specs.Views.{View, view, waits, flow_of, stack_by, stacked_by, advance_v, feed_by, feeds_by, feed_v, feeds_v, turn_v}
+use Rattle.spool.specs.Views.{View, view, waits, stack_by, stacked_by, advance_v, feed_by, feeds_by, feed_v, feeds_v}
 
 -- the sheets that wait, with the next one's flag
 abbrev form : Pair → WaitingPage → List WaitingPage → Bool → List Sheet

@@ -8,7 +8,7 @@
 --                ones where it continues a page; a feed takes the first; a discard and a jam drop all
 --   Follows      the pages that came are those of a job, in their order
 --   Holds        what holds of an engine and its spool after a course
-use Rattle.std.specs.Prelude.{◌≡◌, ℕ, ◌+◌, ◌-◌, ◌<◌, ◌≤◌, List, [], ◌∷◌, ◌++◌, length, drop, slice_index_or}
+use Rattle.std.specs.Prelude.{◌≡◌, ℕ, ◌+◌, ◌-◌, ◌<◌, ◌≤◌, List, [], ◌++◌, length, drop, slice_index_or}
 use Rattle.engine.specs.declared.sheet.Sheet.{Sheet}
 use Rattle.engine.specs.Sheets.{Pair, tally, Before}
 use Rattle.spool.specs.Jobs.{Page, blank, Proper, numbered, begun, so_far}

@@ -4,9 +4,9 @@
 --   turned    what a turn answers
 --   turns     so many turns in a row
 --   owed      how many sheets are in the path or wait
-use Rattle.std.specs.Prelude.{ℕ, zero, suc, Bool, true, false, cond, List, [], ◌∷◌, ◌++◌, length}
+use Rattle.std.specs.Prelude.{ℕ, zero, suc, Bool, false, cond, List, [], ◌∷◌, ◌++◌, length}
 use Rattle.engine.specs.declared.sheet.Sheet.{Sheet}
-use Rattle.engine.specs.Engines.{Paper, paper, put, taken, advance, advanced}
+use Rattle.engine.specs.Engines.{Paper, put, taken, advance, advanced}
 use Rattle.spool.specs.declared.page.Turned.{Turned}
 
 pub record Flow : Type 0 where

@@ -4,8 +4,8 @@
 --              ended, what is open dropped, or the waiting pages and what is open dropped
 --   done_by     the receiver after an effect
 --   Station    a receiver over an engine
-use Rattle.std.specs.Prelude.{ℕ, Bool, true, false, cond, Some, None, Option}
-use Rattle.spool.specs.Spooled.{Spooled, empty, receive, discard, jam}
+use Rattle.std.specs.Prelude.{ℕ, Some, None, Option}
+use Rattle.spool.specs.Spooled.{Spooled, receive, discard}
 use Rattle.spool.specs.Views.{View, view, jam_v, turn_v}
 
 pub record Receiver : Type 0 where

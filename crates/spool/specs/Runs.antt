@@ -10,7 +10,7 @@
 --   Receiving       the run receives the pages of a job in their order
 --   Told            each reply and each reading gave what sheets and calls count
 --   Stands          what stands of a printer end after a run
-use Rattle.std.specs.Prelude.{◌≡◌, ℕ, zero, suc, ◌<◌, Bool, true, false, cond, List, [], ◌∷◌, ◌++◌, length, take, drop, Some, None, Option}
+use Rattle.std.specs.Prelude.{◌≡◌, ℕ, zero, suc, ◌<◌, cond, List, [], ◌∷◌, ◌++◌, length, take, drop, Some, None, Option}
 use Rattle.engine.specs.declared.sheet.Sheet.{Sheet}
 use Rattle.engine.specs.Engines.{paper}
 use Rattle.engine.specs.Sheets.{tally}

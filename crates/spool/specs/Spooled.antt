@@ -9,7 +9,7 @@
 --   receive         a page with n copies waits
 --   discard         the waiting pages are dropped
 --   jam             the waiting pages and the sheets in the path are dropped
-use Rattle.std.specs.Prelude.{◌≡◌, ℕ, ◌+◌, ◌-◌, ◌<◌, ◌≤◌, Bool, true, false, cond, List, [], ◌∷◌, ◌++◌, length, Some, None, Ok, Err, Option, Result, ◌==◌, nat_lt}
+use Rattle.std.specs.Prelude.{◌≡◌, ℕ, ◌+◌, ◌-◌, Bool, cond, List, [], ◌∷◌, ◌++◌, length, Some, None, Ok, Err, Option, Result, ◌==◌, nat_lt}
 use Rattle.engine.specs.declared.sheet.Sheet.{Sheet}
 use Rattle.engine.specs.Sheets.{Pair, pair, after}
 use Rattle.spool.specs.declared.page.WaitingPage.{WaitingPage}

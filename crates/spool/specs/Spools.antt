@@ -4,7 +4,7 @@
 --   told       the counters that the code hands out
 --   bytes_of    the five counters in two bytes each, the high byte first
 --   Whole      what holds of every spool
-use Rattle.std.specs.Prelude.{◌≡◌, ℕ, ◌+◌, ◌/◌, ◌%◌, ◌<◌, ◌≤◌, List, [], ◌∷◌, ◌++◌, length, take}
+use Rattle.std.specs.Prelude.{◌≡◌, ℕ, ◌+◌, ◌/◌, ◌%◌, ◌<◌, ◌≤◌, List, [], ◌∷◌, length, take}
 use Rattle.engine.specs.Sheets.{Pair}
 use Rattle.engine.specs.Tallies.{counted}
 use Rattle.spool.specs.declared.page.WaitingPage.{WaitingPage}

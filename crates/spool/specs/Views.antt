@@ -5,7 +5,7 @@
 --   advance_v  the engine advances; what it stacked the spool counts
 --   feed_v     the spool's next copy is fed; what the engine took the spool commits
 --   turn_v     one after the other
-use Rattle.std.specs.Prelude.{ℕ, Bool, true, false, cond, List, [], ◌∷◌, ◌++◌, Some, None, Option}
+use Rattle.std.specs.Prelude.{ℕ, Bool, false, cond, List, [], ◌∷◌, Some, None, Option}
 use Rattle.engine.specs.declared.sheet.Sheet.{Sheet}
 use Rattle.engine.specs.declared.sheet.Advanced.{Advanced}
 use Rattle.engine.specs.declared.sheet.Advanced.TheVariants.{Stacked, PathEmpty, BinFull}

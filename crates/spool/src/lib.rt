@@ -1,4 +1,6 @@
 // The spool of a printer end, and the law of its whole runs.
+#![tactic(auto)]
+
 mod copies;
 mod page;
 mod spool;

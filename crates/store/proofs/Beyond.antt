@@ -6,7 +6,7 @@ use Rattle.queue.specs.Queues.{span_in, span_out}
 use Rattle.queue.proofs.Spans.{span_behind}
 use Rattle.store.specs.declared.entry.Found.{Found}
 use Rattle.store.specs.Entries.{sizes, found_in, without}
-use Rattle.store.specs.Stores.{Store, store, kept, Held, held, written, storing, closed_up, deleting_at, deleting}
+use Rattle.store.specs.Stores.{Store, kept, Held, written, storing, closed_up, deleting_at, deleting}
 use Rattle.store.proofs.Sizes.{stands, size_within, size_out}
 
 abbrev Beyond : List ℕ → Held → Type 0

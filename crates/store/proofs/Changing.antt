@@ -1,12 +1,11 @@
 -- What the calls make of the contents.
-use Rattle.std.proofs.Common.{◌≡◌, ℕ, ◌+◌, ◌-◌, ◌<◌, ◌≤◌, Bool, true, false, cond, leb, List, [], ◌∷◌, ◌++◌, length, take, drop, is_ok, Ok, Err, Result, sym, refl, ap, ◌∙◌, subst, append_assoc, arith, length-append}
+use Rattle.std.proofs.Common.{◌≡◌, ℕ, ◌+◌, ◌-◌, ◌<◌, ◌≤◌, cond, leb, List, [], ◌∷◌, ◌++◌, length, take, drop, is_ok, Result, sym, refl, ap, ◌∙◌, subst, append_assoc, arith, length-append}
 use Rattle.std.proofs.lemmas.List.{take_at, drop-append-le, drop-take, length-take-le, length-drop}
 use Rattle.std.proofs.lemmas.Bool.{cond_both, cond-false, leb-true, lt-leb}
 use Rattle.refusal.specs.declared.Refusal.{Refusal}
-use Rattle.store.specs.declared.entry.Entry.{Entry}
 use Rattle.store.specs.Entries.{entry, sizes}
 use Rattle.store.specs.Stores.{Store, store, kept, Answer, answer, Held, held, outside, is_stored, full, beginning, written, storing, closing}
-use Rattle.store.specs.Contents.{Overlay, overlay, overlays_in, Contents, content, contents}
+use Rattle.store.specs.Contents.{overlays_in, Contents, content, contents}
 use Rattle.store.specs.Laws.{emptied, appended, ended}
 use Rattle.store.proofs.Holding.{overlays_append, same_front}
 

@@ -1,14 +1,13 @@
 -- Each refusal has its ground.
-use Rattle.std.proofs.Common.{◌≡◌, ℕ, ◌+◌, ◌<◌, ◌≤◌, Bool, true, false, cond, eqb, ltb, leb, ◌⊎◌, List, length, is_some, Some, None, Ok, Err, Option, Result, sym, refl, ap, ◌∙◌, subst, inl, inr, arith}
+use Rattle.std.proofs.Common.{◌≡◌, ℕ, ◌+◌, ◌<◌, ◌≤◌, Bool, true, false, cond, eqb, ltb, leb, ◌⊎◌, List, length, is_some, Some, None, Option, Result, sym, refl, ap, ◌∙◌, subst, inl, inr, arith}
 use Rattle.std.specs.Option.{option_map}
 use Rattle.std.proofs.lemmas.Bool.{cond_both, eqb-true, eqb-false, ltb-true, ltb-false, leb-true, leb-false}
 use Rattle.refusal.specs.declared.Refusal.{Refusal}
-use Rattle.refusal.specs.declared.Refusal.TheVariants.{IdOutOfRange, AlreadyStored, NotStored, StoreFull}
 use Rattle.store.specs.declared.entry.Entry.{Entry}
 use Rattle.store.specs.declared.entry.Found.{Found}
 use Rattle.store.specs.Entries.{found_in}
-use Rattle.store.specs.Stores.{Store, store, kept, Answer, answer, Held, held, outside, is_stored, full, beginning, storing, deleting_at, deleting}
-use Rattle.store.specs.Contents.{overlays_in, bytes_in, contents}
+use Rattle.store.specs.Stores.{Store, kept, Answer, answer, Held, held, outside, is_stored, full, beginning, storing, deleting_at, deleting}
+use Rattle.store.specs.Contents.{overlays_in, bytes_in}
 use Rattle.store.specs.Laws.{BeginGrounds, StoreGrounds, DeleteGrounds}
 use Rattle.store.proofs.Parts.{part_of, part_in}
 

@@ -1,10 +1,10 @@
 -- What the memory holds, part by part.
-use Rattle.std.proofs.Common.{◌≡◌, ℕ, ◌+◌, ◌-◌, ◌<◌, ◌≤◌, List, [], ◌∷◌, ◌++◌, length, take, drop, sym, refl, ap, ◌∙◌, append_assoc, arith, length-append, take-add}
+use Rattle.std.proofs.Common.{◌≡◌, ℕ, ◌+◌, ◌-◌, ◌≤◌, List, [], ◌∷◌, ◌++◌, length, take, drop, sym, refl, ap, ◌∙◌, arith, take-add}
 use Rattle.std.proofs.lemmas.List.{take-take, take_at, drop_at, drop-drop, drop-take}
 use Rattle.store.specs.declared.entry.Entry.{Entry}
 use Rattle.store.specs.Entries.{sizes}
 use Rattle.store.specs.Stores.{Store, store, kept}
-use Rattle.store.specs.Contents.{Overlay, overlay, overlays_in, Contents, content, contents}
+use Rattle.store.specs.Contents.{overlay, overlays_in, content, contents}
 use Rattle.store.specs.Laws.{stored_bytes, Gapless}
 use Rattle.store.proofs.Sizes.{sizes_append}
 

@@ -1,8 +1,8 @@
 -- No two overlays have one ID.
-use Rattle.std.proofs.Common.{◌≡◌, ℕ, Bool, true, false, cond, eqb, List, [], ◌∷◌, ◌++◌, Some, None, Option, sym, refl, ap, ◌∙◌, subst, arith}
+use Rattle.std.proofs.Common.{◌≡◌, ℕ, Bool, true, false, cond, eqb, List, [], ◌∷◌, ◌++◌, Some, None, sym, refl, ap, ◌∙◌, subst, arith}
 use Rattle.std.proofs.lemmas.Bool.{cond_both, cond-false, eqb-true, eqb-false, ne_eqb}
-use Rattle.store.specs.Contents.{Overlay, overlay, bytes_in, Contents, content}
-use Rattle.store.specs.Laws.{removed, deleted, Once, OnceLaws}
+use Rattle.store.specs.Contents.{Overlay, overlay, bytes_in, Contents}
+use Rattle.store.specs.Laws.{removed, Once, OnceLaws}
 
 -- an ID that is not among the overlays
 none_first : (o : Overlay) (os : List Overlay) (k : ℕ) → bytes_in (o ∷ os) k ≡ None → (eqb o.id k ≡ false) × (bytes_in os k ≡ None)

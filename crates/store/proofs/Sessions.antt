@@ -1,12 +1,11 @@
 -- A whole overlay, from its beginning to its end.
-use Rattle.std.proofs.Common.{◌≡◌, ℕ, ◌<◌, ◌≤◌, Bool, true, false, cond, leb, List, [], ◌∷◌, ◌++◌, length, Ok, Err, Result, sym, refl, ap, ◌∙◌, subst, append_assoc, arith}
+use Rattle.std.proofs.Common.{◌≡◌, ℕ, ◌<◌, leb, List, [], ◌∷◌, length, Ok, Err, Result, sym, refl, ap, ◌∙◌, subst, append_assoc, arith}
 use Rattle.std.proofs.lemmas.List.{append-nil}
 use Rattle.std.proofs.lemmas.Bool.{cond_both}
 use Rattle.refusal.specs.declared.Refusal.{Refusal}
-use Rattle.store.specs.declared.entry.Entry.{Entry}
-use Rattle.store.specs.Stores.{Store, store, kept, Answer, answer, Held, held, outside, is_stored, full, beginning, storing, closing}
-use Rattle.store.specs.Contents.{overlay, Contents, content, contents}
-use Rattle.store.specs.Laws.{emptied, appended, ended, then_held, sent, bytes_of, Session}
+use Rattle.store.specs.Stores.{Store, Answer, answer, Held, held, outside, is_stored, full, beginning, storing}
+use Rattle.store.specs.Contents.{content, contents}
+use Rattle.store.specs.Laws.{appended, ended, then_held, sent, bytes_of, Session}
 use Rattle.store.proofs.Grounds.{begin_grounds}
 use Rattle.store.proofs.Changing.{began, ends, stored}
 

@@ -4,7 +4,7 @@
 --   bytes_in      the bytes of the first overlay with an ID
 --   Contents     the stored overlays, and the bytes of the one that is being sent
 --   contents     what a store and the memory hold
-use Rattle.std.specs.Prelude.{ℕ, cond, List, [], ◌∷◌, ◌++◌, take, drop, Some, None, Option, ◌==◌}
+use Rattle.std.specs.Prelude.{ℕ, cond, List, [], ◌∷◌, take, drop, Some, None, Option, ◌==◌}
 use Rattle.store.specs.declared.entry.Entry.{Entry}
 use Rattle.store.specs.Entries.{sizes}
 use Rattle.store.specs.Stores.{Store}

@@ -14,10 +14,10 @@
 --   BeginGrounds   each refusal of a beginning has its ground, and where there is none there is no refusal
 --   StoreGrounds   the same of a command to store
 --   DeleteGrounds  the same of a deletion
-use Rattle.std.specs.Prelude.{◌≡◌, ℕ, ◌+◌, ◌<◌, ◌≤◌, Bool, true, false, cond, ◌⊎◌, List, [], ◌∷◌, ◌++◌, length, take, is_some, Some, None, Ok, Err, Option, Result, ◌==◌, ◌≢◌}
+use Rattle.std.specs.Prelude.{◌≡◌, ℕ, ◌+◌, ◌<◌, ◌≤◌, true, cond, ◌⊎◌, List, [], ◌∷◌, ◌++◌, length, take, is_some, None, Ok, Err, Result, ◌==◌, ◌≢◌}
 use Rattle.refusal.specs.declared.Refusal.{Refusal}
 use Rattle.refusal.specs.declared.Refusal.TheVariants.{IdOutOfRange, AlreadyStored, NotStored, StoreFull}
-use Rattle.store.specs.Stores.{Store, kept, Answer, answer, Held, held, beginning, storing, closing}
+use Rattle.store.specs.Stores.{Store, kept, answer, Held, held, beginning, storing, closing}
 use Rattle.store.specs.Contents.{Overlay, overlay, bytes_in, Contents, content, contents}
 
 abbrev pub emptied : Contents → Contents

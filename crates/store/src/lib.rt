@@ -1,4 +1,6 @@
 // Stored overlays: the table of their IDs and sizes, and their bytes in the caller's memory.
+#![tactic(auto)]
+
 mod entry;
 mod overlays;
 

@@ -1,4 +1,5 @@
 // What text leaves on a page.
+#![tactic(auto)]
 
 // A mark on a page: a character or a rule.
 #[derive(Clone, Copy)]

@@ -5,7 +5,7 @@
 --   nibble_of   the value of a hexadecimal digit, in upper or lower case
 --   hex_of      the bytes that pairs of hexadecimal digits write
 --   bytes_of    the same of a word, which is not empty
-use Rattle.std.specs.Prelude.{ℕ, ◌+◌, ◌-◌, ◌*◌, Bool, cond, ◌&&◌, List, [], ◌∷◌, ◌++◌, length, Some, None, Option, ◌==◌, nat_le, nat_lt}
+use Rattle.std.specs.Prelude.{ℕ, ◌+◌, ◌-◌, ◌*◌, Bool, cond, ◌&&◌, List, [], ◌∷◌, length, Some, None, Option, ◌==◌, nat_le, nat_lt}
 
 -- what follows from a value, where there is one
 abbrev pub and_then : {A B : Type 0} → Option A → (A → Option B) → Option B

@@ -1,4 +1,6 @@
 // The words of a line, and the numbers and bytes that they write.
+#![tactic(auto)]
+
 mod digits;
 mod split;
 

@@ -1,4 +1,4 @@
-use Rattle.std.proofs.Common.{sym, arith, rules}
+use Rattle.std.proofs.Common.{sym, arith}
 use Rattle.queue.proofs.Laws.{gap_is, turned}
 use Rattle.queue.proofs.close_gap.Goals as goal
 

@@ -1,4 +1,4 @@
-use Rattle.std.proofs.Common.{◌≡◌, ◌+◌, drop, sym, ◌∙◌, arith}
+use Rattle.std.proofs.Common.{◌+◌, drop, sym, ◌∙◌, arith}
 use Rattle.std.proofs.lemmas.List.Edits.{paste_none}
 use Rattle.queue.proofs.Spans.{span_is, moved, moved_all}
 use Rattle.queue.proofs.close_span.Goals as goal

@@ -1,4 +1,4 @@
-use Rattle.std.proofs.Common.{cond, Some, sym, ap, ◌∙◌, arith, rules}
+use Rattle.std.proofs.Common.{cond, Some, sym, ap, ◌∙◌, arith}
 use Rattle.queue.specs.Queues.{closed}
 use Rattle.queue.proofs.Laws.{first_is}
 use Rattle.queue.proofs.take_first.Goals as goal

@@ -1,4 +1,4 @@
-use Rattle.std.proofs.Common.{refl, arith, rules}
+use Rattle.std.proofs.Common.{refl, arith}
 use Rattle.store.proofs.Searching.{here, passed, not_there, sizes_more}
 use Rattle.store.specs.Entries.{entry}
 use Rattle.store.proofs.entry.find_in.Goals as goal

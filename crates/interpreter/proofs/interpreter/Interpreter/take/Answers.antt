@@ -1,4 +1,4 @@
-use Rattle.std.proofs.Common.{sym, ◌∙◌, arith, rules}
+use Rattle.std.proofs.Common.{sym, ◌∙◌, arith}
 use Rattle.interpreter.specs.Machines.{machine_of}
 use Rattle.interpreter.proofs.Refusing.{take_unreadable}
 use Rattle.interpreter.proofs.interpreter.Interpreter.take.Goals as goal

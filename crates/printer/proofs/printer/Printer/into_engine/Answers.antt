@@ -1,4 +1,4 @@
-use Rattle.std.proofs.Common.{◌++◌, refl, ap, ◌∙◌}
+use Rattle.std.proofs.Common.{◌++◌, ap, ◌∙◌}
 use Rattle.interpreter.specs.Takes.{meaning}
 use Rattle.printer.specs.Ends.{station_of}
 use Rattle.printer.specs.Printers.{end_of, owed_by}

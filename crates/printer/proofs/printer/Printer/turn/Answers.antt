@@ -1,8 +1,8 @@
-use Rattle.std.proofs.Common.{◌≡◌, sym, ap, ◌∙◌}
+use Rattle.std.proofs.Common.{◌≡◌, ap, ◌∙◌}
 use Rattle.interpreter.specs.declared.interpreter.Interpreter.{Interpreter}
-use Rattle.interpreter.specs.Machines.{Machine, machine_of, open_page}
+use Rattle.interpreter.specs.Machines.{machine_of, open_page}
 use Rattle.interpreter.specs.Takes.{meaning}
-use Rattle.printer.specs.Ends.{PrinterEnd, view_of, with_view, station_of}
+use Rattle.printer.specs.Ends.{view_of, with_view, station_of}
 use Rattle.printer.specs.Printers.{end_of}
 use Rattle.spool.specs.Views.{View, flow_of, turn_v}
 use Rattle.spool.proofs.Calls.{turn_law}

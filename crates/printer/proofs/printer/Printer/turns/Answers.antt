@@ -1,7 +1,7 @@
-use Rattle.std.proofs.Common.{◌≡◌, ℕ, suc, ◌+◌, ◌-◌, ◌<◌, ◌≤◌, ◌++◌, length, sym, refl, ap, ◌∙◌, subst, add-one, arith}
+use Rattle.std.proofs.Common.{◌≡◌, suc, ◌+◌, ◌-◌, sym, refl, ap, ◌∙◌, subst, add-one, arith}
 use Rattle.interpreter.specs.Takes.{meaning}
 use Rattle.printer.specs.Ends.{view_of, station_of, turned_times}
-use Rattle.printer.specs.Printers.{end_of, Run, Stands, Turns, owed_by, after_turn}
+use Rattle.printer.specs.Printers.{end_of, Stands, Turns, after_turn}
 use Rattle.spool.specs.Flows.{Flow, turns, owed}
 use Rattle.spool.specs.Views.{flow_of}
 use Rattle.spool.proofs.Calls.{owed_so}

@@ -1,18 +1,17 @@
-use Rattle.std.proofs.Common.{◌≡◌, ◌+◌, ◌-◌, ◌<◌, ◌≤◌, length, get_or, take, set, sym, refl, ap, ◌∙◌, arith, rules}
+use Rattle.std.proofs.Common.{◌≡◌, ◌+◌, ◌-◌, ◌<◌, ◌≤◌, length, get_or, take, set, sym, refl, ap, ◌∙◌, arith}
 use Rattle.spool.proofs.spool.Spool.commit.Goals as goal
 use Rattle.std.proofs.lemmas.List.{get_or-set_same, length-set}
-use Rattle.std.proofs.lemmas.Bool.{both_ways, eqb-false}
+use Rattle.std.proofs.lemmas.Bool.{eqb-false}
 use Rattle.queue.proofs.Laws.{left_rest, left_length}
-use Rattle.engine.specs.Sheets.{Pair, after}
+use Rattle.engine.specs.Sheets.{Pair}
 use Rattle.engine.specs.Tallies.{counted}
 use Rattle.engine.proofs.Tallying.{after_last, after_other}
-use Rattle.engine.proofs.Counting.{plus_is, plus_fits}
+use Rattle.engine.proofs.Counting.{plus_is}
 use Rattle.spool.specs.declared.page.WaitingPage.{WaitingPage}
 use Rattle.spool.specs.Waits.{unfed_at}
 use Rattle.spool.specs.Spooled.{waiting_page}
 use Rattle.spool.specs.Spools.{spool_of}
 use Rattle.spool.proofs.Waiting.{unfed_less, unfed_first}
-use Rattle.spool.proofs.Tracked.{fed_is}
 use Rattle.spool.proofs.Feeding.{feeding, commit_last, commit_more}
 
 pub invariant_of-self : goal.invariant_of-self

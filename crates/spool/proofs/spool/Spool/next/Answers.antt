@@ -1,10 +1,10 @@
-use Rattle.std.proofs.Common.{◌≡◌, ◌<◌, ◌≤◌, cond, length, take, Some, None, sym, refl, ap, ◌∙◌, arith, rules}
+use Rattle.std.proofs.Common.{cond, take, Some, None, sym, ap, ◌∙◌, arith}
 use Rattle.spool.proofs.spool.Spool.next.Goals as goal
 use Rattle.engine.specs.Tallies.{counted}
 use Rattle.spool.specs.Spooled.{next_at}
 use Rattle.spool.specs.Spools.{spool_of}
 use Rattle.spool.proofs.Tracked.{fed_is}
-use Rattle.spool.proofs.Feeding.{next_is, next_none, free_yes, free_no}
+use Rattle.spool.proofs.Feeding.{next_is, free_yes}
 
 pub returns : goal.returns
 returns c =

@@ -1,4 +1,4 @@
-use Rattle.std.proofs.Common.{◌≡◌, ◌+◌, ◌<◌, ◌≤◌, false, length, take, set, sym, refl, ap, ◌∙◌, subst, arith, rules}
+use Rattle.std.proofs.Common.{◌≡◌, ◌+◌, ◌<◌, ◌≤◌, false, length, take, set, sym, ap, ◌∙◌, subst, arith}
 use Rattle.spool.proofs.spool.Spool.receive.Goals as goal
 use Rattle.spool.proofs.spool.Spool.receive.Goals.{else-begun-via-then-begun+else-from-gt255, else-begun-via-else-begun}
 use Rattle.std.proofs.lemmas.List.{take_more_set, length-set}

@@ -1,4 +1,4 @@
-use Rattle.std.proofs.Common.{◌≡◌, ◌-◌, ◌<◌, ◌≤◌, false, ◌∷◌, length, get_or, take, sym, refl, ap, ◌∙◌, subst, arith, rules}
+use Rattle.std.proofs.Common.{◌<◌, ◌≤◌, false, length, get_or, ap, ◌∙◌, arith}
 use Rattle.spool.proofs.spool.Spool.stack.Goals as goal
 use Rattle.std.proofs.lemmas.Bool.{both_ways}
 use Rattle.queue.proofs.Laws.{first_and_rest, left_first, left_length}
@@ -7,7 +7,7 @@ use Rattle.engine.specs.Tallies.{counted}
 use Rattle.engine.proofs.Counting.{plus_is, plus_fits}
 use Rattle.spool.specs.Jobs.{sheet}
 use Rattle.spool.specs.Spools.{spool_of}
-use Rattle.spool.proofs.Tracked.{fed_is, stack_fits, pop_tied, pop_few, pop_whole, none_stacked}
+use Rattle.spool.proofs.Tracked.{stack_fits, pop_tied, pop_few, pop_whole}
 
 pub returns-in_default : goal.returns-in_default
 returns-in_default c =

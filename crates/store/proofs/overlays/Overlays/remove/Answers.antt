@@ -1,5 +1,5 @@
-use Rattle.std.proofs.Common.{◌≡◌, ◌<◌, ◌≤◌, length, sym, ap, ◌∙◌, arith}
-use Rattle.store.specs.Entries.{sizes, without}
+use Rattle.std.proofs.Common.{◌<◌, ◌≤◌, length, sym, ap, ◌∙◌, arith}
+use Rattle.store.specs.Entries.{sizes}
 use Rattle.store.specs.Stores.{store_of, closed_up}
 use Rattle.store.proofs.Sizes.{stands, at_inside, size_within, size_out}
 use Rattle.store.proofs.Tables.{table_length, taken_out, taken_length}

@@ -1,4 +1,4 @@
-use Rattle.std.proofs.Common.{◌≡◌, length, take, refl, ap, arith, rules}
+use Rattle.std.proofs.Common.{◌≡◌, length, take, refl, ap, arith}
 use Rattle.std.proofs.lemmas.List.{length-take-le, take_more_set}
 use Rattle.engines.specs.Tracks.{path_of, bin_of, room_of}
 use Rattle.engines.proofs.Steps.{none, full, stacks}
