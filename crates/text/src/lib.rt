@@ -1,6 +1,26 @@
 // What text leaves on a page.
 #![tactic(auto)]
 
+mod conditions;
+mod control;
+mod effect;
+mod fault;
+mod font;
+mod moves;
+mod put;
+mod repeat;
+mod rules;
+mod run;
+mod step;
+mod theorems;
+mod write;
+
+pub use conditions::TextConditions;
+pub use fault::TextFault;
+pub use font::Font;
+pub use theorems::laws_stand;
+pub use write::write_text;
+
 // A mark on a page: a character or a rule.
 #[derive(Clone, Copy)]
 pub struct Mark {
