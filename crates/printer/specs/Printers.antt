@@ -72,10 +72,10 @@ abbrev pub after_take : Take → Run → Run
 after_take t run = runs.after_still meaning run (runs.took t)
 
 abbrev pub after_turn : Turned → List Sheet → Run → Run
-after_turn t path run = runs.after_turn_law meaning run t path
+after_turn t path run = runs.after_turn meaning run t path
 
 abbrev pub after_jam : Run → Run
-after_jam run = runs.after_jam_law meaning run
+after_jam run = runs.after_jam meaning run
 
 abbrev pub after_counters : Counters → Run → Run
 after_counters c run = runs.after_still meaning run (runs.counted c)

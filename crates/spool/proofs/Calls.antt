@@ -11,7 +11,7 @@ use Rattle.spool.specs.Flows.{owed}
 use Rattle.spool.specs.Views.{View, view, waits, flow_of, advance_v, feeds_v, turn_v}
 use Rattle.spool.specs.Courses.{Course, later, step, stacked_of, path_of, committed_of, received_of, Holds}
 use Rattle.spool.specs.Receivers.{Receiver, Effect, nothing, setting, opening, ending, closing, clearing, end_by, done_by, Station, station, receiver_of, with_receiver, jam_s}
-use Rattle.spool.specs.Runs.{Meaning, Run, made, took, counted, owing, open_by, open_page, copies_by, copies_in_force, end_event, event_by, course, path, owed_by, counters, Replies, Stands, after_still, after_turn_law, after_jam_law}
+use Rattle.spool.specs.Runs.{Meaning, Run, made, took, counted, owing, open_by, open_page, copies_by, copies_in_force, end_event, event_by, course, path, owed_by, counters, Replies, Stands, after_still, after_turn, after_jam}
 use Rattle.spool.proofs.Turns.{turn_holds}
 use Rattle.spool.proofs.Events.{made_holds, same_holds, page_holds, discard_holds, jam_holds}
 
@@ -90,7 +90,7 @@ owed_law m K run w s n e = record {
   holds = same_holds K (course m run) w.view s.holds;
 }
 
-pub jam_law : {C : Type 0} (m : Meaning C) (K : ℕ) → 0 < K → (run : Run C) (w : Station) → Stands m K run w → Stands m K (after_jam_law m run) (jam_s w)
+pub jam_law : {C : Type 0} (m : Meaning C) (K : ℕ) → 0 < K → (run : Run C) (w : Station) → Stands m K run w → Stands m K (after_jam m run) (jam_s w)
 jam_law m K k run w s = record {
   current = refl;
   copies = s.copies;
@@ -104,7 +104,7 @@ make_law m K k bin room = record { current = refl; copies = refl; some = omega a
 
 -- a turn, by what it answered and left
 module _ {C : Type 0} (m : Meaning C) (K : ℕ) (k : 0 < K) (k8 : K ≤ 8) (run : Run C) (w : Station) (kept : Whole w.view.spool) (s : Stands m K run w) (u : Station) (ev : u.view ≡ turn_v K w.view) (t : Turned) (ea : t.advanced ≡ advanced w.view.paper) (ef : t.fed ≡ feeds_v K (advance_v w.view)) where
-  pub turn_law : u.current ≡ w.current → u.copies ≡ w.copies → Stands m K (after_turn_law m run t u.view.paper.path) u
+  pub turn_law : u.current ≡ w.current → u.copies ≡ w.copies → Stands m K (after_turn m run t u.view.paper.path) u
   turn_law eo en = record {
     current = eo ∙ s.current;
     copies = en ∙ s.copies;

@@ -11,7 +11,7 @@ use Rattle.spool.specs.Flows.{flow, turn, turned, owed}
 use Rattle.spool.specs.Views.{View, waits, flow_of, advance_v, feeds_v, turn_v}
 use Rattle.spool.specs.Courses.{bin_of, stacked_of, path_of, received_of, begun_of, waiting_of}
 use Rattle.spool.specs.Receivers.{Station}
-use Rattle.spool.specs.Runs.{Meaning, Run, course, stacked, path, received, owed_by, flow_by, Receiving, Stands, after_turn_law}
+use Rattle.spool.specs.Runs.{Meaning, Run, course, stacked, path, received, owed_by, flow_by, Receiving, Stands, after_turn}
 use Rattle.spool.proofs.Jobs.{upto_all}
 use Rattle.spool.proofs.Flowing.{flow_turn, flow_fed}
 
@@ -52,6 +52,6 @@ module _ {C : Type 0} (m : Meaning C) (K : ℕ) (k8 : K ≤ 8) (run : Run C) (w 
   turned_so t ea ef =
       turned_same t.advanced (advanced w.view.paper) t.fed (turned K (flow_of w.view)).fed ea (ef ∙ flow_fed K k8 w.view s.holds.known kept.unfed) ∙ ap (turned K) (flow_so m K run w s)
 
-  pub turn_so : (u : Station) (t : Turned) → u.view ≡ turn_v K w.view → Stands m K (after_turn_law m run t u.view.paper.path) u → flow_by m (after_turn_law m run t u.view.paper.path) u.view.paper.room ≡ turn K (flow_by m run w.view.paper.room)
+  pub turn_so : (u : Station) (t : Turned) → u.view ≡ turn_v K w.view → Stands m K (after_turn m run t u.view.paper.path) u → flow_by m (after_turn m run t u.view.paper.path) u.view.paper.room ≡ turn K (flow_by m run w.view.paper.room)
   turn_so u t ev su =
-      sym (flow_so m K (after_turn_law m run t u.view.paper.path) u su) ∙ ap flow_of ev ∙ flow_turn K k8 w.view s.holds.known kept.unfed ∙ ap (turn K) (flow_so m K run w s)
+      sym (flow_so m K (after_turn m run t u.view.paper.path) u su) ∙ ap flow_of ev ∙ flow_turn K k8 w.view s.holds.known kept.unfed ∙ ap (turn K) (flow_so m K run w s)

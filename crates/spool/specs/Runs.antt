@@ -162,13 +162,13 @@ abbrev pub after_still : {C : Type 0} → Meaning C → Run C → Call C → Run
 after_still m run c = after_call run c (stacked m run) (path m run)
 
 -- a turn with this answer that leaves this path
-abbrev pub after_turn_law : {C : Type 0} → Meaning C → Run C → Turned → List Sheet → Run C
-after_turn_law m run t p = after_call run (turned t) (stacked m run ++ stacked_by t.advanced) p
+abbrev pub after_turn : {C : Type 0} → Meaning C → Run C → Turned → List Sheet → Run C
+after_turn m run t p = after_call run (turned t) (stacked m run ++ stacked_by t.advanced) p
 
-abbrev pub after_jam_law : {C : Type 0} → Meaning C → Run C → Run C
-after_jam_law m run = after_call run jam (stacked m run) []
+abbrev pub after_jam : {C : Type 0} → Meaning C → Run C → Run C
+after_jam m run = after_call run jam (stacked m run) []
 
 -- n turns in a row
 abbrev pub Turns : {C : Type 0} → Meaning C → ℕ → Run C → Run C → Type 0
 Turns m zero r s = s ≡ r
-Turns {C} m (suc n) r s = (q : Run C) × (Turns m n r q × ((t : Turned) × ((p : List Sheet) × (s ≡ after_turn_law m q t p))))
+Turns {C} m (suc n) r s = (q : Run C) × (Turns m n r q × ((t : Turned) × ((p : List Sheet) × (s ≡ after_turn m q t p))))

@@ -4,7 +4,7 @@ use Rattle.text.specs.declared.fault.TextFault.{TextFault}
 use Rattle.text.specs.Canvases.{Canvas, Out, out, Grows}
 use Rattle.text.specs.Texts.{text_of}
 use Rattle.text.specs.Laws.{Inside, Unbounded, Repeats}
-use Rattle.text.specs.Judging.{Judged, Grounds-decide}
+use Rattle.text.specs.Judging.{Judged, GroundsDecide}
 use Rattle.text.proofs.Bounds as bounds
 use Rattle.text.proofs.Cycles.{length_cycled, get_d_cycled}
 use Rattle.text.proofs.Growing as growing
@@ -43,5 +43,5 @@ pub left_judged : (bs : List ℕ) (s s' : Canvas) (r : Result (Unit {0}) TextFau
 left_judged bs s s' r e = subst (Judged false 0 bs s) (sym e) (text_judged bs s)
 
 -- a text is refused where a ground is met, and accepted where none is
-pub text_grounds : Grounds-decide
+pub text_grounds : GroundsDecide
 text_grounds = meeting.grounds_decide

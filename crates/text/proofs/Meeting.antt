@@ -13,7 +13,7 @@ use Rattle.text.specs.Texts.{begins, controlled, text_from, text_of}
 use Rattle.text.specs.Grounds as grounds
 use Rattle.text.specs.Grounds.{Ground, Unobeyed, misheaded, unperformed, no_successor}
 use Rattle.text.specs.Judging as judging
-use Rattle.text.specs.Judging.{Reach, here, Refuses, Judged, Met, Grounds-decide}
+use Rattle.text.specs.Judging.{Reach, here, Refuses, Judged, Met, GroundsDecide}
 use Rattle.text.proofs.Bounds.{unbounded}
 use Rattle.text.proofs.Failing.{Bad, Fails, fails_character}
 use Rattle.text.proofs.Failed.{fails_control, fails_effect, fails_obeyed, fails_chained}
@@ -83,5 +83,5 @@ accepted bs s o j free = go o.result o.left j
     go (Ok x) l j = refl
     go (Err f) l j = absurd (free f.offset (record { chained = j.chained; rest = drop j.away bs; reached = j.reached; refusal = f.refusal; through = j.through; some = omega (arith, j.inside, length-drop j.away bs); ground = j.ground }))
 
-pub grounds_decide : Grounds-decide
+pub grounds_decide : GroundsDecide
 grounds_decide = record { refused = met_refuses; accepted = λ bs s free. accepted bs s (text_of bs s) (judged_text bs s) free }

@@ -5,7 +5,7 @@
 --             before stands
 --   Judged    a text is accepted, or else refused on a ground
 --   Met       a ground stands at an offset that the text is read up to
---   Grounds-decide   a text is refused where a ground is met, and accepted where none is
+--   GroundsDecide   a text is refused where a ground is met, and accepted where none is
 -- A place is: whether a control is chained there, the offset, the bytes from there on, and the canvas reached.
 use Rattle.std.specs.Prelude.{◌≡◌, ℕ, ◌+◌, ◌<◌, Bool, true, false, List, [], ◌∷◌, length, drop, Ok, Err}
 use Rattle.refusal.specs.declared.Refusal.{Refusal}
@@ -52,7 +52,7 @@ pub record Met (bs : List ℕ) (s : Canvas) (at : ℕ) : Type 0 where
   pub some : 0 < length rest
   pub ground : Ground chained rest reached refusal
 
-pub record Grounds-decide : Type 0 where
+pub record GroundsDecide : Type 0 where
   -- where a ground is met the text is refused, at that place
   pub refused : (bs : List ℕ) (s : Canvas) (at : ℕ) → Met bs s at → (r : Refusal) × ((text_of bs s).result ≡ Err (fault r at))
   -- where none is met it is accepted

@@ -1,5 +1,5 @@
 // What holds of every text, whatever its bytes.
-ghost use Rattle.text.specs.Judging.{Grounds-decide};
+ghost use Rattle.text.specs.Judging.{GroundsDecide};
 ghost use Rattle.text.specs.Laws.{Unbounded, Repeats};
 
 // The bound on the steps of a walk never cuts it short; a pattern repeated is what its words say; a text is refused
@@ -7,7 +7,7 @@ ghost use Rattle.text.specs.Laws.{Unbounded, Repeats};
 pub fn laws_stand() -> u8
     ensures unbounded { Unbounded }
     ensures repeats { Repeats }
-    ensures grounds { Grounds-decide }
+    ensures grounds { GroundsDecide }
 {
     0
 }

@@ -2,7 +2,7 @@ use Rattle.std.proofs.Common.{sym, subst}
 use Rattle.interpreter.specs.Takes.{meaning}
 use Rattle.printer.specs.Ends.{PrinterEnd, station_of}
 use Rattle.printer.specs.Printers.{end_of}
-use Rattle.spool.specs.Runs.{Stands, after_jam_law}
+use Rattle.spool.specs.Runs.{Stands, after_jam}
 use Rattle.spool.proofs.Calls.{jam_law}
 use Rattle.printer.proofs.printer.Printer.jam.Goals as goal
 
@@ -13,5 +13,5 @@ returns g c =
     let now = c.lose_paper.ensures in
     record {
       end = now;
-      law = λ run s. subst (λ (e : PrinterEnd). Stands meaning m.most (after_jam_law meaning run) (station_of e)) (sym now) (jam_law meaning m.most (m.sound p.engine).some run (station_of (end_of m p)) s);
+      law = λ run s. subst (λ (e : PrinterEnd). Stands meaning m.most (after_jam meaning run) (station_of e)) (sym now) (jam_law meaning m.most (m.sound p.engine).some run (station_of (end_of m p)) s);
     }
