@@ -1,17 +1,13 @@
 -- The place of a code in a list, and that each place of the table is the first with its code.
-use Rattle.std.proofs.Common.{◌≡◌, ℕ, zero, suc, ◌+◌, ◌-◌, ◌<◌, ◌≤◌, Bool, true, false, ◌&&◌, eqb, ltb, List, length, get_or, drop, refl, ◌∙◌, ⊎_elim, arith}
-use Rattle.std.proofs.lemmas.List.{at_drop_more, at_drop_all}
-use Rattle.std.proofs.lemmas.Bool.{cond-true, cond-false, cases_eq, and_parts, eqb-true, lt-ltb}
+use Rattle.std.proofs.Common.{◌≡◌, ℕ, zero, suc, ◌+◌, ◌-◌, ◌<◌, ◌≤◌, Bool, true, ◌&&◌, ◌==◌, cond, eqb, ltb, List, refl, ap, ◌∙◌, ⊎_elim, arith}
+use Rattle.std.specs.List.{position_or_len}
+use Rattle.std.proofs.lemmas.List.Recursion.{is_position_or_len}
+use Rattle.std.proofs.lemmas.Bool.{cond-true, cases_eq, and_parts, eqb-true, lt-ltb}
 use Rattle.compose.specs.Ebcdic.{table, place_in, code_at, ascii_of}
 
-pub found : (cs : List ℕ) (k code : ℕ) → k < length cs → eqb (get_or cs k 0) code ≡ true → k + place_in (drop k cs) code ≡ place_in cs code → k ≡ place_in cs code
-found cs k code h e inv = omega (arith, at_drop_more (λ l. place_in l code) cs k 0 h, cond-true (eqb (get_or cs k 0) code) 0 (suc (place_in (drop (k + 1) cs) code)) e)
-
-pub passed : (cs : List ℕ) (k code : ℕ) → k < length cs → eqb (get_or cs k 0) code ≡ false → k + place_in (drop k cs) code ≡ place_in cs code → k + 1 + place_in (drop (k + 1) cs) code ≡ place_in cs code
-passed cs k code h e inv = omega (arith, at_drop_more (λ l. place_in l code) cs k 0 h, cond-false (eqb (get_or cs k 0) code) 0 (suc (place_in (drop (k + 1) cs) code)) e)
-
-pub not_there : (cs : List ℕ) (k code : ℕ) → length cs ≤ k → k + place_in (drop k cs) code ≡ place_in cs code → k ≡ place_in cs code
-not_there cs k code h inv = omega (arith, at_drop_all (λ l. place_in l code) cs k h)
+-- the first place of a code is where the library finds it
+pub found : (cs : List ℕ) (code : ℕ) → place_in cs code ≡ position_or_len (λ c. c == code) cs
+found cs code = is_position_or_len (λ cs. place_in cs code) (λ c. c == code) refl (λ c cs. ap (λ k. cond (c == code) 0 k) (omega arith)) cs
 
 -- every place below a number is the first with its code
 firsts : List ℕ → ℕ → Bool

@@ -3,10 +3,13 @@
 --   position       controls that set the position: inline, and chained to it baseline
 --   font_control    a control that sets the font
 --   characters     the EBCDIC codes of characters
+--   rule_type       the type of the control that draws a rule with its length in a direction
 --   rule_control    a control of a type that draws a rule: its length and width, signed
 --   command        Write Text with this data and without a request; none where it would pass 32,767 bytes
 use Rattle.std.specs.Prelude.{ℕ, ◌+◌, ◌/◌, ◌%◌, cond, List, [], ◌∷◌, ◌++◌, length, ℤ, Some, None, Option, nat_lt}
 use Rattle.compose.specs.Ebcdic.{ebcdic_of}
+use Rattle.compose.specs.declared.builder.Rule.{Rule}
+use Rattle.compose.specs.declared.builder.Rule.TheVariants.{Inline, Baseline}
 use Rattle.std.specs.Int.{w16}
 use Rattle.std.proofs.Common.{of_z}
 
@@ -25,6 +28,10 @@ font_control number = 0x2B ∷ 0xD3 ∷ 0x03 ∷ 0xF0 ∷ number ∷ []
 abbrev pub characters : List ℕ → List ℕ
 characters [] = []
 characters (c ∷ cs) = ebcdic_of c ∷ characters cs
+
+abbrev pub rule_type : Rule → ℕ
+rule_type Inline = 0xE4
+rule_type Baseline = 0xE6
 
 abbrev pub rule_control : ℕ → ℤ → ℤ → List ℕ
 rule_control type length width =

@@ -1,8 +1,7 @@
 // A Write Text command, put together piece by piece. Each piece goes behind those before it.
 ghost use Rattle.std.specs.Prelude.{◌≡◌, [], ◌∷◌, ◌++◌, IfOk, vec_items, OnOk};
 ghost use Rattle.std.specs.Option.{option_map};
-ghost use Rattle.compose.specs.Ebcdic.{ebcdic_of};
-ghost use Rattle.compose.specs.Texts.{position, font_control, characters, rule_control, command};
+ghost use Rattle.compose.specs.Texts.{position, font_control, characters, rule_type, rule_control, command};
 
 use crate::ebcdic::to_ebcdic;
 use std::alloc::{AllocError, Global};
@@ -10,10 +9,12 @@ use std::alloc::{AllocError, Global};
 // The longest command.
 const MOST: usize = 32767;
 
-// The types of the controls that draw rules.
-const RULE_I: u8 = 0xE4;
-
-const RULE_B: u8 = 0xE6;
+// The types of the controls that draw rules, by the direction of the rule's length.
+#[derive(Clone, Copy)]
+enum Rule {
+    Inline = 0xE4,
+    Baseline = 0xE6,
+}
 
 #[derive(Drop)]
 pub struct WriteText {
@@ -47,28 +48,21 @@ impl WriteText {
             .extend_from_slice(&[0x2B, 0xD3, 0x03, 0xF0, number])
     }
 
-    // One character.
-    fn character(&mut self, ascii: u8) -> Result<(), AllocError>
-        ensures { OnOk result (self.new.text.items ≡ self.old.text.items ++ ebcdic_of ascii ∷ []) }
-    {
-        self.text.push(to_ebcdic(ascii))?;
-        Ok(())
-    }
-
     // Characters in ASCII.
     pub fn characters(&mut self, ascii: &[u8]) -> Result<(), AllocError>
         ensures { OnOk result (self.new.text.items ≡ self.old.text.items ++ characters ascii.now) }
     {
         for c in ascii {
-            self.character(*c)?;
+            self.text.push(to_ebcdic(*c))?;
         }
         Ok(())
     }
 
     // A rule of one of the two types.
-    fn rule(&mut self, control: u8, length: i16, width: i16) -> Result<(), AllocError>
-        ensures { OnOk result (self.new.text.items ≡ self.old.text.items ++ rule_control control length width) }
+    fn rule(&mut self, control: Rule, length: i16, width: i16) -> Result<(), AllocError>
+        ensures { OnOk result (self.new.text.items ≡ self.old.text.items ++ rule_control (rule_type control) length width) }
     {
+        let control = control as u8;
         let [l0, l1] = length.to_be_bytes();
         let [w0, w1] = width.to_be_bytes();
         self.text
@@ -79,14 +73,14 @@ impl WriteText {
     pub fn rule_i(&mut self, length: i16, width: i16) -> Result<(), AllocError>
         ensures { OnOk result (self.new.text.items ≡ self.old.text.items ++ rule_control 0xE4 length width) }
     {
-        self.rule(RULE_I, length, width)
+        self.rule(Rule::Inline, length, width)
     }
 
     // The same with its length in the baseline direction.
     pub fn rule_b(&mut self, length: i16, width: i16) -> Result<(), AllocError>
         ensures { OnOk result (self.new.text.items ≡ self.old.text.items ++ rule_control 0xE6 length width) }
     {
-        self.rule(RULE_B, length, width)
+        self.rule(Rule::Baseline, length, width)
     }
 
     // The bytes of the command, without a request for a reply; None where they would be too many.

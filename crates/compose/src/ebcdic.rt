@@ -18,14 +18,14 @@ const QUESTION_MARK: u8 = 0x6F;
 fn place_in(codes: &[u8], code: u8) -> usize
     ensures { result ≡ place_in codes.now code }
 {
-    for (k, c) in codes.iter().enumerate() {
-        if *c == code {
-            return k;
-        }
+    match codes.iter().position(|c| *c == code) {
+        Some(place) => place,
+        None => codes.len(),
     }
-    codes.len()
 }
 
+// A search of the table itself was tried, and its proof did not close: each goal there holds all ninety-five codes. So
+// the table is named only here and in the other function of the table.
 fn place_in_table(code: u8) -> usize
     ensures { result ≡ place_in table code }
 {
@@ -36,11 +36,7 @@ fn place_in_table(code: u8) -> usize
 fn code_in(codes: &[u8], place: usize) -> u8
     ensures { result ≡ code_at codes.now place }
 {
-    if place < codes.len() {
-        codes[place]
-    } else {
-        QUESTION_MARK
-    }
+    codes.get(place).copied().unwrap_or(QUESTION_MARK)
 }
 
 fn code_in_table(place: usize) -> u8

@@ -1,10 +1,28 @@
--- Bytes as digits, one after the other.
-use Rattle.std.proofs.Common.{◌≡◌, ℕ, ◌+◌, ◌<◌, ◌≤◌, List, ◌++◌, length, get_or, drop, sym, ◌∙◌, append_assoc, append-nil}
-use Rattle.std.proofs.lemmas.List.{at_drop_more, at_drop_all}
-use Rattle.hexadecimal.specs.Hex.{then_byte, hex_text}
+-- What the library encodes: two digits for each byte.
+use Rattle.std.proofs.Common.{◌≡◌, ℕ, zero, suc, ◌/◌, ◌%◌, ◌<◌, ◌&&◌, Bool, true, eqb, List, [], ◌∷◌, get_or, refl, ⊎_elim, arith}
+use Rattle.std.proofs.lemmas.Bool.{cases_eq, and_parts, eqb-true}
+use Rattle.hex.specs.Hex.{upper_digits, encode_with, IsBytes}
+use Rattle.hexadecimal.specs.Hex.{hex_digit, hex_text}
 
-pub went_on : (bytes had had' end : List ℕ) (k : ℕ) → k < length bytes → had' ≡ then_byte had (get_or bytes k 0) → had ++ hex_text (drop k bytes) ≡ end → had' ++ hex_text (drop (k + 1) bytes) ≡ end
-went_on bytes had had' end k h more inv = rw more (simp append_assoc (sym (at_drop_more (λ l. had ++ hex_text l) bytes k 0 h) ∙ inv))
+-- the digits below a number stand in the table
+stand : ℕ → Bool
+stand zero = true
+stand (suc n) = eqb (get_or upper_digits n 0) (hex_digit n) && stand n
 
-pub ended : (bytes had end : List ℕ) (k : ℕ) → length bytes ≤ k → had ++ hex_text (drop k bytes) ≡ end → had ≡ end
-ended bytes had end k h inv = sym (append-nil had) ∙ sym (at_drop_all (λ l. had ++ hex_text l) bytes k h) ∙ inv
+at_digit : (n d : ℕ) → stand n ≡ true → d < n → get_or upper_digits d 0 ≡ hex_digit d
+unfolding stand
+at_digit zero d h below = absurd (omega arith)
+at_digit (suc n) d h below =
+    let p = and_parts (eqb (get_or upper_digits n 0) (hex_digit n)) (stand n) h in
+    ⊎_elim (λ same. rw same (eqb-true (get_or upper_digits n 0) (hex_digit n) p.0)) (λ other. at_digit n d p.1 (omega arith)) (cases_eq d n)
+
+all_stand : stand 16 ≡ true
+unfolding stand
+all_stand = refl
+
+pub encoded : (bytes : List ℕ) → IsBytes bytes → encode_with upper_digits bytes ≡ hex_text bytes
+unfolding encode_with
+encoded [] small = refl
+encoded (b ∷ bs) small =
+    let first : b < 256 = small 0 in
+    rw (at_digit 16 (b / 16) all_stand (omega arith), at_digit 16 (b % 16) all_stand (omega arith), encoded bs (λ i. small (suc i))) refl

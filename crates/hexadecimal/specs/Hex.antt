@@ -1,10 +1,9 @@
 -- Bytes as text.
 --   hex_digit   a number below sixteen as a hexadecimal digit in upper case
 --   hex_text    bytes as two hexadecimal digits each
---   then_byte   text, and then a byte as two hexadecimal digits
 --   page_text   a page's ID as eight hexadecimal digits
 --   spaced_hex  bytes as hexadecimal digits after a space; nothing where there are none
-use Rattle.std.specs.Prelude.{ℕ, ◌+◌, ◌/◌, ◌%◌, cond, List, [], ◌∷◌, ◌++◌, length, ◌==◌, nat_lt}
+use Rattle.std.specs.Prelude.{ℕ, ◌+◌, ◌/◌, ◌%◌, cond, List, [], ◌∷◌, length, ◌==◌, nat_lt}
 
 abbrev pub hex_digit : ℕ → ℕ
 hex_digit d = cond (nat_lt d 10) (48 + d) (55 + d)
@@ -12,9 +11,6 @@ hex_digit d = cond (nat_lt d 10) (48 + d) (55 + d)
 abbrev pub hex_text : List ℕ → List ℕ
 hex_text [] = []
 hex_text (b ∷ bs) = hex_digit (b / 16) ∷ hex_digit (b % 16) ∷ hex_text bs
-
-abbrev pub then_byte : List ℕ → ℕ → List ℕ
-then_byte text b = (text ++ hex_digit (b / 16) ∷ []) ++ hex_digit (b % 16) ∷ []
 
 unfoldable pub page_text : ℕ → List ℕ
 page_text page = hex_text ((page / 16777216 % 256) ∷ (page / 65536 % 256) ∷ (page / 256 % 256) ∷ (page % 256) ∷ [])

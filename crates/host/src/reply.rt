@@ -1,19 +1,25 @@
 // A reply as the host reads it.
 ghost use Rattle.std.specs.Prelude.{◌≡◌, ◌+◌, ◌<◌, length};
-ghost use Rattle.host.specs.Hosts.{two_at, number_in, reply_in};
+ghost use Rattle.host.specs.Hosts.{two_at, counted_at, number_in, reply_in};
 
-#[derive(Clone, Copy)]
-pub struct Reply {
-    pub received: u16,
-    pub committed_pages: u16,
-    pub committed_copies: u16,
-    pub stacked_pages: u16,
-    pub stacked_copies: u16,
-    // The number of the refusal that a negative reply tells; 0 in an acknowledgement.
-    pub number: u8,
+// So many complete pages, and so many copies of the page behind them.
+#[derive(Clone, Copy, PartialEq, Eq, Debug)]
+pub struct Counted {
+    pub pages: u16,
+    pub copies: u16,
 }
 
-// The two bytes at a place, the high one first.
+#[derive(Clone, Copy, PartialEq, Eq, Debug)]
+pub struct Reply {
+    pub received: u16,
+    pub committed: Counted,
+    pub stacked: Counted,
+    // The number of the refusal that a negative reply tells; None in an acknowledgement.
+    pub number: Option<u8>,
+}
+
+// The two bytes at a place, the high one first. A pattern would name sixteen bytes where five numbers are read, which is
+// no plainer.
 fn two_at(bytes: &[u8], at: usize) -> u16
     requires { at + 1 < length bytes.now }
     ensures { result ≡ two_at bytes.now at }
@@ -21,11 +27,26 @@ fn two_at(bytes: &[u8], at: usize) -> u16
     u16::from_be_bytes([bytes[at], bytes[at + 1]])
 }
 
+// Pages, and behind them copies.
+fn counted_at(bytes: &[u8], at: usize) -> Counted
+    requires { at + 3 < length bytes.now }
+    ensures { result ≡ counted_at bytes.now at }
+{
+    Counted {
+        pages: two_at(bytes, at),
+        copies: two_at(bytes, at + 2),
+    }
+}
+
 // The number in the sense bytes of a negative reply.
-fn number_in(bytes: &[u8]) -> u8
+fn number_in(bytes: &[u8]) -> Option<u8>
     ensures { result ≡ number_in bytes.now }
 {
-    if bytes.len() == 40 { bytes[27] } else { 0 }
+    if bytes.len() == 40 {
+        Some(bytes[27])
+    } else {
+        None
+    }
 }
 
 impl Reply {
@@ -41,10 +62,8 @@ impl Reply {
         }
         Some(Reply {
             received: two_at(bytes, 6),
-            committed_pages: two_at(bytes, 8),
-            committed_copies: two_at(bytes, 10),
-            stacked_pages: two_at(bytes, 12),
-            stacked_copies: two_at(bytes, 14),
+            committed: counted_at(bytes, 8),
+            stacked: counted_at(bytes, 12),
             number: number_in(bytes),
         })
     }

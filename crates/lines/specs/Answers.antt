@@ -11,6 +11,8 @@
 --   sheet_line      a sheet, between words: its page, its copy, and whether that copy is the page's last
 use Rattle.std.specs.Prelude.{ℕ, Bool, cond, List, ◌++◌, length, ℤ, codes, decimal}
 use Rattle.std.specs.Fmt.{signed_decimal}
+use Rattle.engine.specs.declared.sheet.Sheet.{Sheet}
+use Rattle.script.specs.declared.call.Areas.{Areas}
 use Rattle.hexadecimal.specs.Hex.{page_text, spaced_hex}
 
 abbrev pub number_line : List ℕ → ℕ → List ℕ
@@ -48,11 +50,11 @@ mark_line kind i b first second =
     ++ (place_text second
     ++ codes "\n")))))
 
-abbrev pub areas_line : ℕ → ℕ → ℕ → List ℕ
-areas_line reply marks memory =
-    codes "areas " ++ (decimal reply
-    ++ (codes " " ++ (decimal marks
-    ++ (codes " " ++ (decimal memory
+abbrev pub areas_line : Areas → List ℕ
+areas_line areas =
+    codes "areas " ++ (decimal areas.reply
+    ++ (codes " " ++ (decimal areas.marks
+    ++ (codes " " ++ (decimal areas.memory
     ++ codes "\n")))))
 
 abbrev pub memory_line : ℕ → List ℕ → List ℕ
@@ -61,10 +63,10 @@ memory_line at bytes = hex_line (codes "memory " ++ (decimal at ++ (codes " " ++
 abbrev pub flag_text : Bool → List ℕ
 flag_text b = cond b (codes "1") (codes "0")
 
-abbrev pub sheet_line : List ℕ → ℕ → ℕ → Bool → List ℕ → List ℕ
-sheet_line name page copy last end =
+abbrev pub sheet_line : List ℕ → Sheet → List ℕ → List ℕ
+sheet_line name sheet end =
     name
-    ++ (codes "page=" ++ (page_text page
-    ++ (codes " copy=" ++ (decimal copy
-    ++ (codes " last=" ++ (flag_text last
+    ++ (codes "page=" ++ (page_text sheet.page
+    ++ (codes " copy=" ++ (decimal sheet.copy
+    ++ (codes " last=" ++ (flag_text sheet.last
     ++ (end ++ codes "\n")))))))

@@ -1,9 +1,11 @@
 // Lines of several numbers.
 ghost use Rattle.std.specs.Prelude.{◌≡◌, IfOk, string_bytes};
-ghost use Rattle.lines.specs.Answers.{take_line, counters_line, place_text, mark_line, areas_line};
+ghost use Rattle.lines.specs.Answers.{take_line, counters_line, mark_line, areas_line};
 
+use script::Areas;
 use std::alloc::{AllocError, Global};
 
+// Of what a take answers only numbers are told, so they are passed as they are: its own type would say no more here.
 pub fn take_line(
     heap: Global,
     used: usize,
@@ -16,7 +18,8 @@ pub fn take_line(
     format!(in heap; "take used={used} number={number} reply={reply} marks={marks}\n")
 }
 
-// Pages received, and the pages and copies that are committed and stacked.
+// Pages received, and the pages and copies that are committed and stacked. The counters of a printer end are narrower
+// than these numbers, so that their type would ask more of a caller.
 pub fn counters_line(
     heap: Global,
     received: u64,
@@ -32,13 +35,7 @@ pub fn counters_line(
     )
 }
 
-// A number that may be negative, after a space.
-fn place(heap: Global, n: i64) -> Result<String, AllocError>
-    ensures { IfOk result (λ s. string_bytes s ≡ place_text n) }
-{
-    format!(in heap; " {n}")
-}
-
+// The numbers of a mark are narrower than these, so that its type would ask more of a caller.
 pub fn mark_line(
     heap: Global,
     kind: u32,
@@ -49,16 +46,17 @@ pub fn mark_line(
 ) -> Result<String, AllocError>
     ensures { IfOk result (λ s. string_bytes s ≡ mark_line kind i b first second) }
 {
-    let i = place(heap, i)?;
-    let b = place(heap, b)?;
-    let first = place(heap, first)?;
-    let second = place(heap, second)?;
-    format!(in heap; "mark {kind}{i}{b}{first}{second}\n")
+    format!(in heap; "mark {kind} {i} {b} {first} {second}\n")
 }
 
 // The sizes of the reply area, of the list of marks and of the memory.
-pub fn areas_line(heap: Global, reply: u32, marks: u32, memory: u32) -> Result<String, AllocError>
-    ensures { IfOk result (λ s. string_bytes s ≡ areas_line reply marks memory) }
+pub fn areas_line(heap: Global, areas: Areas) -> Result<String, AllocError>
+    ensures { IfOk result (λ s. string_bytes s ≡ areas_line areas) }
 {
+    let Areas {
+        reply,
+        marks,
+        memory,
+    } = areas;
     format!(in heap; "areas {reply} {marks} {memory}\n")
 }

@@ -4,5 +4,5 @@
 mod call;
 mod parser;
 
-pub use call::Call;
+pub use call::{Areas, Call, EngineKind};
 pub use parser::parse;

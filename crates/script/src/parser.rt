@@ -1,9 +1,9 @@
 // The call that a line writes.
-ghost use Rattle.std.specs.Prelude.{◌≡◌, [], IfOk};
-ghost use Rattle.script.specs.Calls.{carrying, bare_of, engine_of, areas_of, memory_of, numbered, poke_of, followed, said_of};
+ghost use Rattle.std.specs.Prelude.{◌≡◌, IfOk};
+ghost use Rattle.script.specs.Calls.{seen, bare_of, engine_of, areas_of, memory_of, numbered, poke_of, followed, said_of};
 
-use crate::call::Call;
-use std::alloc::AllocError;
+use crate::call::{Areas, Call, EngineKind};
+use std::alloc::{AllocError, Global};
 use words::{first_word, hex, number, number_up_to, same, says_nothing};
 
 // The room of an engine: sheet records of a track, bytes of a file.
@@ -19,11 +19,12 @@ const MARKS: u32 = 1000;
 const MEMORY: u32 = 65536;
 
 // The call of a line of one word.
-fn bare(word: &[u8]) -> Option<Call>
-    ensures { result ≡ bare_of word.now }
+fn bare(heap: Global, word: &[u8]) -> Option<Call<Vec<u8>>>
+    ensures { seen result ≡ bare_of word.now }
 {
+    // A match on the word branches at each of its letters: tried, and the proof of its last arm did not close.
     if same(word, b"take") {
-        Some(Call::Take)
+        Some(Call::Take(Vec::new(heap)))
     } else if same(word, b"turn") {
         Some(Call::Turn(1))
     } else if same(word, b"jam") {
@@ -41,44 +42,52 @@ fn bare(word: &[u8]) -> Option<Call>
     }
 }
 
-fn engine(rest: &[u8]) -> Option<Call>
-    ensures { result ≡ engine_of rest.now }
+fn engine(rest: &[u8]) -> Option<Call<Vec<u8>>>
+    ensures { seen result ≡ engine_of rest.now }
 {
     let (kind, room) = first_word(rest);
     let room = room?;
-    if same(kind, b"track") {
-        Some(Call::EngineTrack(number_up_to(room, TRACK)?))
-    } else if same(kind, b"file") {
-        Some(Call::EngineFile(number_up_to(room, FILE)?))
-    } else {
-        None
+    match kind {
+        b"track" => Some(Call::Engine {
+            kind: EngineKind::Track,
+            room: number_up_to(room, TRACK)?,
+        }),
+        b"file" => Some(Call::Engine {
+            kind: EngineKind::File,
+            room: number_up_to(room, FILE)?,
+        }),
+        _ => None,
     }
 }
 
-fn areas(rest: &[u8]) -> Option<Call>
-    ensures { result ≡ areas_of rest.now }
+fn areas(rest: &[u8]) -> Option<Call<Vec<u8>>>
+    ensures { seen result ≡ areas_of rest.now }
 {
     let (reply, rest) = first_word(rest);
     let (marks, memory) = first_word(rest?);
     let memory = memory?;
-    let reply = number_up_to(reply, REPLY)?;
-    let marks = number_up_to(marks, MARKS)?;
-    Some(Call::Areas(reply, marks, number_up_to(memory, MEMORY)?))
+    Some(Call::Areas(Areas {
+        reply: number_up_to(reply, REPLY)?,
+        marks: number_up_to(marks, MARKS)?,
+        memory: number_up_to(memory, MEMORY)?,
+    }))
 }
 
-fn memory(rest: &[u8]) -> Option<Call>
-    ensures { result ≡ memory_of rest.now }
+fn memory(rest: &[u8]) -> Option<Call<Vec<u8>>>
+    ensures { seen result ≡ memory_of rest.now }
 {
     let (at, n) = first_word(rest);
     let n = n?;
     let at = number_up_to(at, MEMORY)?;
-    Some(Call::Memory(at, number_up_to(n, MEMORY - at)?))
+    let size = number_up_to(n, MEMORY - at)?;
+    Some(Call::Memory { at, size })
 }
 
 // The call of a first word that numbers follow.
-fn with_numbers(word: &[u8], rest: &[u8]) -> Option<Call>
-    ensures { result ≡ numbered word.now rest.now }
+fn with_numbers(word: &[u8], rest: &[u8]) -> Option<Call<Vec<u8>>>
+    ensures { seen result ≡ numbered word.now rest.now }
 {
+    // No match on the word, as above.
     if same(word, b"turn") {
         Some(Call::Turn(number(rest)?))
     } else if same(word, b"memory") {
@@ -94,8 +103,8 @@ fn with_numbers(word: &[u8], rest: &[u8]) -> Option<Call>
     }
 }
 
-fn poke(rest: &[u8], bytes: &mut Vec<u8>) -> Result<Option<Call>, AllocError>
-    ensures { IfOk result (λ call. carrying call bytes.new.items ≡ poke_of rest.now) }
+fn poke(heap: Global, rest: &[u8]) -> Result<Option<Call<Vec<u8>>>, AllocError>
+    ensures { IfOk result (λ call. seen call ≡ poke_of rest.now) }
 {
     let (at, Some(word)) = first_word(rest) else {
         return Ok(None);
@@ -103,42 +112,35 @@ fn poke(rest: &[u8], bytes: &mut Vec<u8>) -> Result<Option<Call>, AllocError>
     let Some(at) = number_up_to(at, MEMORY) else {
         return Ok(None);
     };
-    if hex(word, bytes)? && bytes.len() <= (MEMORY - at) as usize {
-        Ok(Some(Call::Poke(at)))
-    } else {
-        Ok(None)
+    match hex(heap, word)? {
+        Some(bytes) if bytes.len() <= (MEMORY - at) as usize => Ok(Some(Call::Poke { at, bytes })),
+        _ => Ok(None),
     }
 }
 
-// The call of a first word that more follows; `bytes` holds nothing yet.
-fn with_words(word: &[u8], rest: &[u8], bytes: &mut Vec<u8>) -> Result<Option<Call>, AllocError>
-    requires { bytes.old.items ≡ [] }
-    ensures { IfOk result (λ call. carrying call bytes.new.items ≡ followed word.now rest.now) }
+// The call of a first word that more follows.
+fn with_words(heap: Global, word: &[u8], rest: &[u8]) -> Result<Option<Call<Vec<u8>>>, AllocError>
+    ensures { IfOk result (λ call. seen call ≡ followed word.now rest.now) }
 {
+    // No match on the word, as above.
     if same(word, b"take") {
-        Ok(if hex(rest, bytes)? {
-            Some(Call::Take)
-        } else {
-            None
-        })
+        Ok(hex(heap, rest)?.map(|bytes| Call::Take(bytes)))
     } else if same(word, b"poke") {
-        poke(rest, bytes)
+        poke(heap, rest)
     } else {
         Ok(with_numbers(word, rest))
     }
 }
 
 // The call of a line, which has lost its newline: None where it is malformed.
-// `bytes` then holds the bytes that the call carries, and nothing that it held before.
-pub fn parse(line: &[u8], bytes: &mut Vec<u8>) -> Result<Option<Call>, AllocError>
-    ensures { IfOk result (λ call. carrying call bytes.new.items ≡ said_of line.now) }
+pub fn parse(heap: Global, line: &[u8]) -> Result<Option<Call<Vec<u8>>>, AllocError>
+    ensures { IfOk result (λ call. seen call ≡ said_of line.now) }
 {
-    bytes.clear();
     if says_nothing(line) {
         return Ok(Some(Call::Skip));
     }
     match first_word(line) {
-        (word, None) => Ok(bare(word)),
-        (word, Some(rest)) => with_words(word, rest, bytes),
+        (word, None) => Ok(bare(heap, word)),
+        (word, Some(rest)) => with_words(heap, word, rest),
     }
 }

@@ -1,28 +1,46 @@
--- Pairs of hexadecimal digits, one after the other.
-use Rattle.std.proofs.Common.{◌≡◌, ℕ, ◌+◌, ◌-◌, ◌*◌, ◌≤◌, List, [], ◌∷◌, ◌++◌, length, get_or, take, drop, Some, None, Option, sym, refl, ap, ◌∙◌, append_assoc, arith}
-use Rattle.std.proofs.lemmas.List.{take_all}
-use Rattle.words.specs.Numerals.{and_then, nibble_of, hex_of}
+-- The bytes of pairs of hexadecimal digits, and what hex decodes.
+use Rattle.std.proofs.Common.{◌≡◌, ℕ, ◌+◌, ◌*◌, ◌%◌, List, [], ◌∷◌, length, Some, None, Option, Result, Ok, Err, refl, sym, ◌∙◌, ◌==◌, false, inl, inr, arith}
+use Rattle.std.specs.Result.{result_ok}
+use Rattle.std.proofs.lemmas.Bool.Decides.{nat_tests}
+use Rattle.hex.specs.declared.error.FromHexError.{FromHexError}
+use Rattle.hex.specs.Hex.{hex_digit_value, digit_or_error, decode_pairs, decode_of, ◌>>=◌}
+use Rattle.hex.proofs.HexLemmas.{decode_of-even, decode_of-odd}
+use Rattle.std.proofs.lemmas.Bool.{cases_lt}
+use Rattle.words.specs.Numerals.{and_then, nibble_of, hex_of, bytes_of}
 
--- bytes after those that are there
-abbrev pub hex_after : List ℕ → Option (List ℕ) → Option (List ℕ)
-hex_after had o = and_then o (λ bs. Some (had ++ bs))
+same_digit : (b : ℕ) → hex_digit_value b ≡ nibble_of b
+same_digit b = grind (arith, nat_tests)
 
--- the byte of two digits, before the bytes of the rest
+-- the bytes of two digits, and of those that follow
 abbrev pair : Option ℕ → Option ℕ → Option (List ℕ) → Option (List ℕ)
 pair high low rest = and_then high (λ h. and_then low (λ l. and_then rest (λ bs. Some ((h * 16 + l) ∷ bs))))
 
-joined : (had : List ℕ) (h l : ℕ) (o : Option (List ℕ)) → hex_after (had ++ (h * 16 + l) ∷ []) o ≡ hex_after had (pair (Some h) (Some l) o)
-joined had h l (Some bs) = ap Some (append_assoc had ((h * 16 + l) ∷ []) bs)
-joined had h l None = refl
+paired : (a b i : ℕ) (high low : Option ℕ) (rest : Result (List ℕ) FromHexError)
+    → result_ok ((digit_or_error a i high >>= (λ h. digit_or_error b (i + 1) low >>= (λ l. Ok (h * 16 + l)))) >>= (λ byte. rest >>= (λ bytes. Ok (byte ∷ bytes)))) ≡ pair high low (result_ok rest)
+paired a b i (Some h) (Some l) (Ok bs) = refl
+paired a b i (Some h) (Some l) (Err e) = refl
+paired a b i (Some h) None rest = refl
+paired a b i None low rest = refl
 
--- two digits more
-pub paired : (w had had' : List ℕ) (h l : ℕ) (end : Option (List ℕ)) → 2 ≤ length w → nibble_of (get_or w 0 0) ≡ Some h → nibble_of (get_or w 1 0) ≡ Some l → had' ≡ had ++ (h * 16 + l) ∷ [] → hex_after had (hex_of w) ≡ end → hex_after had' (hex_of (take (length w - 2) (drop 2 w))) ≡ end
-paired [] had had' h l end long high low more inv = absurd (omega (arith, long))
-paired (a ∷ []) had had' h l end long high low more inv = absurd (omega (arith, long))
-paired (a ∷ b ∷ bs) had had' h l end long high low more inv =
-    let whole : take (length (a ∷ b ∷ bs) - 2) (drop 2 (a ∷ b ∷ bs)) ≡ bs = take_all (length (a ∷ b ∷ bs) - 2) bs (omega arith) in
-    rw (whole, more) (joined had h l (hex_of bs) ∙ ap (λ o. hex_after had (pair o (Some l) (hex_of bs))) (sym high) ∙ ap (λ o. hex_after had (pair (nibble_of a) o (hex_of bs))) (sym low) ∙ inv)
+pairs : (i : ℕ) (w : List ℕ) → result_ok (decode_pairs i w) ≡ hex_of w
+unfolding decode_pairs
+pairs i [] = refl
+pairs i (a ∷ []) = refl
+pairs i (a ∷ b ∷ bs) = paired a b i (hex_digit_value a) (hex_digit_value b) (decode_pairs (i + 2) bs) ∙ rw (same_digit a, same_digit b, pairs (i + 2) bs) refl
 
-pub none_yet : (had : List ℕ) (o : Option (List ℕ)) → had ≡ [] → hex_after had o ≡ o
-none_yet had (Some bs) e = rw e refl
-none_yet had None e = refl
+nothing : (high low : Option ℕ) (rest : Option (List ℕ)) → rest ≡ None → pair high low rest ≡ None
+nothing (Some h) (Some l) rest e = rw e refl
+nothing (Some h) None rest e = refl
+nothing None low rest e = refl
+
+odd : (w : List ℕ) → length w % 2 ≡ 1 → hex_of w ≡ None
+odd [] h = absurd (omega (arith, h))
+odd (a ∷ []) h = refl
+odd (a ∷ b ∷ bs) h = nothing (nibble_of a) (nibble_of b) (hex_of bs) (odd bs (omega (arith, h)))
+
+-- a word that is not empty writes the bytes that are decoded from it
+pub decoded : (w : List ℕ) → (length w == 0) ≡ false → bytes_of w ≡ result_ok (decode_of w)
+decoded w h = elim (cases_lt (length w % 2) 1) [
+  | inl even ↦ rw (h, decode_of-even w (omega arith)) (sym (pairs 0 w))
+  | inr one ↦ rw (h, decode_of-odd w (omega arith)) (odd w (omega arith))
+]

@@ -1,33 +1,34 @@
--- The letters of a line, up to its first space.
-use Rattle.std.proofs.Common.{◌≡◌, ℕ, ◌+◌, ◌<◌, ◌≤◌, true, false, cond, eqb, List, [], ◌∷◌, ◌++◌, length, get_or, take, drop, Some, None, sym, ap, ◌∙◌, append_assoc, append-nil}
-use Rattle.std.proofs.lemmas.List.{at_drop_more, at_drop_all, take_more, take_all}
+-- The words of a line, by the place of its first space.
+use Rattle.std.proofs.Common.{◌≡◌, ℕ, suc, ◌+◌, ◌<◌, ◌≤◌, ◌==◌, Bool, true, false, not, cond, List, [], ◌∷◌, length, take, drop, Some, None, refl, ap, arith}
+use Rattle.std.specs.List.{position_or_len}
 use Rattle.words.specs.Words.{word_of, rest_of}
 
--- where the first i letters are no space
-pub record Passed (w : List ℕ) (i : ℕ) : Type 0 where
-  pub word : take i w ++ word_of (drop i w) ≡ word_of w
-  pub rest : rest_of (drop i w) ≡ rest_of w
+abbrev pub is_space : ℕ → Bool
+is_space b = b == 32
 
-pub passed_more : (w : List ℕ) (i : ℕ) → i < length w → eqb (get_or w i 0) 32 ≡ false → Passed w i → Passed w (i + 1)
-passed_more w i h no-space p =
-    let more = take_more w i 0 h in
-    let word : word_of (drop i w) ≡ get_or w i 0 ∷ word_of (drop (i + 1) w) = at_drop_more word_of w i 0 h ∙ ap (λ b. cond b [] (get_or w i 0 ∷ word_of (drop (i + 1) w))) no-space in
-    let rest : rest_of (drop i w) ≡ rest_of (drop (i + 1) w) = at_drop_more rest_of w i 0 h ∙ ap (λ b. cond b (Some (drop (i + 1) w)) (rest_of (drop (i + 1) w))) no-space in
-    record {
-      word = rw more (append_assoc (take i w) (get_or w i 0 ∷ []) (word_of (drop (i + 1) w)) ∙ ap (λ x. take i w ++ x) (sym word) ∙ p.word);
-      rest = sym rest ∙ p.rest;
-    }
+abbrev pub first_space : List ℕ → ℕ
+first_space line = position_or_len is_space line
 
-pub word_at_space : (w : List ℕ) (i : ℕ) → i < length w → eqb (get_or w i 0) 32 ≡ true → Passed w i → take i w ≡ word_of w
-word_at_space w i h space p =
-    let word : word_of (drop i w) ≡ [] = at_drop_more word_of w i 0 h ∙ ap (λ b. cond b [] (get_or w i 0 ∷ word_of (drop (i + 1) w))) space in
-    sym (append-nil (take i w)) ∙ ap (λ x. take i w ++ x) (sym word) ∙ p.word
+word_by : (space : Bool) (b : ℕ) (bs : List ℕ) (k : ℕ) → take k bs ≡ word_of bs → take (cond (not space) (1 + k) 0) (b ∷ bs) ≡ cond space [] (b ∷ word_of bs)
+word_by true b bs k h = refl
+word_by false b bs k h = let e : 1 + k ≡ suc k = omega arith in rw e (ap (λ w. b ∷ w) h)
 
-pub rest_at_space : (w : List ℕ) (i : ℕ) → i < length w → eqb (get_or w i 0) 32 ≡ true → Passed w i → rest_of w ≡ Some (drop (i + 1) w)
-rest_at_space w i h space p = sym p.rest ∙ at_drop_more rest_of w i 0 h ∙ ap (λ b. cond b (Some (drop (i + 1) w)) (rest_of (drop (i + 1) w))) space
+pub word_before : (line : List ℕ) → take (first_space line) line ≡ word_of line
+word_before [] = refl
+word_before (b ∷ bs) = word_by (is_space b) b bs (first_space bs) (word_before bs)
 
-pub word_at_end : (w : List ℕ) (i : ℕ) → length w ≤ i → Passed w i → w ≡ word_of w
-word_at_end w i h p = sym (take_all i w h) ∙ sym (append-nil (take i w)) ∙ ap (λ x. take i w ++ x) (sym (at_drop_all word_of w i h)) ∙ p.word
+rest_by : (space : Bool) (bs : List ℕ) (k : ℕ) → (k < length bs → rest_of bs ≡ Some (drop (suc k) bs)) → cond (not space) (1 + k) 0 < suc (length bs) → cond space (Some bs) (rest_of bs) ≡ Some (drop (cond (not space) (1 + k) 0) bs)
+rest_by true bs k h below = refl
+rest_by false bs k h below = let e : 1 + k ≡ suc k = omega arith in rw e (h (omega arith))
 
-pub rest_at_end : (w : List ℕ) (i : ℕ) → length w ≤ i → Passed w i → rest_of w ≡ None
-rest_at_end w i h p = sym p.rest ∙ at_drop_all rest_of w i h
+pub rest_behind : (line : List ℕ) → first_space line < length line → rest_of line ≡ Some (drop (suc (first_space line)) line)
+rest_behind [] below = absurd (omega arith)
+rest_behind (b ∷ bs) below = rest_by (is_space b) bs (first_space bs) (rest_behind bs) below
+
+none_by : (space : Bool) (bs : List ℕ) (k : ℕ) → (length bs ≤ k → rest_of bs ≡ None) → suc (length bs) ≤ cond (not space) (1 + k) 0 → cond space (Some bs) (rest_of bs) ≡ None
+none_by true bs k h past = absurd (omega arith)
+none_by false bs k h past = h (omega arith)
+
+pub no_rest : (line : List ℕ) → length line ≤ first_space line → rest_of line ≡ None
+no_rest [] past = refl
+no_rest (b ∷ bs) past = none_by (is_space b) bs (first_space bs) (no_rest bs) past

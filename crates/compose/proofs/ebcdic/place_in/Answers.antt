@@ -1,12 +1,14 @@
-use Rattle.std.proofs.Common.{arith, eq-eqb, ne_eqb}
-use Rattle.compose.proofs.Places.{found, passed, not_there}
+use Rattle.std.proofs.Common.{ℕ, ◌==◌, length, sym, ◌∙◌, arith, rules}
+use Rattle.std.proofs.lemmas.List.Sums.{position_or_len_is}
+use Rattle.compose.proofs.Places.{found}
 use Rattle.compose.proofs.ebcdic.place_in.Goals as goal
 
-pub returns-then-c-code : goal.returns-then-c-code
-returns-then-c-code c = found _ c.loop-k.k _ (omega arith) (eq-eqb _ _ c.if-c-code.true) c.loop-k.invariant
+pub returns-in-Some : goal.returns-in-Some
+returns-in-Some c =
+    let place = position_or_len_is (λ (b : ℕ). b == c.args.code) c.args.codes.now c.in-Some.place 0 (search rules) (search rules) (search rules) in
+    sym (found c.args.codes.now c.args.code ∙ place)
 
-pub loop-k-preserved : goal.loop-k-preserved
-loop-k-preserved c = passed _ c.loop-k.k _ (omega arith) (ne_eqb _ _ c.if-c-code.false) c.loop-k.invariant
-
-pub returns : goal.returns
-returns c = omega (arith, not_there _ c.loop-k.k _ (omega arith) c.loop-k.invariant)
+pub returns-in-None : goal.returns-in-None
+returns-in-None c =
+    let none = position_or_len_is (λ (b : ℕ). b == c.args.code) c.args.codes.now (length c.args.codes.now) 0 (omega arith) (search rules) (search rules) in
+    sym (found c.args.codes.now c.args.code ∙ none)

@@ -1,23 +1,25 @@
-use Rattle.std.proofs.Common.{sym, ◌∙◌, arith}
-use native.Mathlib.Nat.{sub-zero}
-use Rattle.std.proofs.lemmas.List.{take_rest}
-use Rattle.words.proofs.Spaces.{passed_more, word_at_space, rest_at_space, word_at_end, rest_at_end}
+use Rattle.std.proofs.Common.{◌<◌, length, take, sym, ap, ◌∙◌, add-one, arith, rules}
+use Rattle.std.proofs.lemmas.List.Sums.{position_or_len_is}
+use Rattle.std.proofs.lemmas.List.{take_rest, take_all}
+use Rattle.words.proofs.Spaces.{is_space, first_space, word_before, rest_behind, no_rest}
 use Rattle.words.proofs.split.first_word.Goals as goal
 
-pub returns-then-is_space : goal.returns-then-is_space
-returns-then-is_space c =
-    let space = sym c.is_space.ensures ∙ c.if-is_space.true in
+pub returns-in-Some : goal.returns-in-Some
+returns-in-Some c =
+    let line = c.args.line.now in
+    let found = position_or_len_is is_space line c.in-Some.i 0 (search rules) (search rules) (search rules) in
+    let below : c.in-Some.i < length line = search rules in
+    let inside : first_space line < length line = omega (arith, found) in
     record {
-      word = rw sub-zero (word_at_space _ c.loop-i.i c.loop-i-test.true space c.loop-i.invariant);
-      rest = rw take_rest (rest_at_space _ c.loop-i.i c.loop-i-test.true space c.loop-i.invariant);
+      word = ap (λ n. take n line) (sym found) ∙ word_before line;
+      rest = rw (take_rest, ← found, add-one) (rest_behind line inside);
     }
 
-pub loop-i-preserved : goal.loop-i-preserved
-loop-i-preserved c = passed_more _ c.loop-i.i c.loop-i-test.true (sym c.is_space.ensures ∙ c.if-is_space.false) c.loop-i.invariant
-
-pub returns : goal.returns
-returns c =
+pub returns-in-None : goal.returns-in-None
+returns-in-None c =
+    let line = c.args.line.now in
+    let none = position_or_len_is is_space line (length line) 0 (omega arith) (search rules) (search rules) in
     record {
-      word = word_at_end _ c.loop-i.i (omega arith) c.loop-i.invariant;
-      rest = rest_at_end _ c.loop-i.i (omega arith) c.loop-i.invariant;
+      word = sym (take_all (length line) line (omega arith)) ∙ ap (λ n. take n line) (sym none) ∙ word_before line;
+      rest = no_rest line (omega arith);
     }
