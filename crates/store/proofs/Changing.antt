@@ -3,6 +3,7 @@ use Rattle.std.proofs.Common.{◌≡◌, ℕ, ◌+◌, ◌-◌, ◌<◌, ◌≤�
 use Rattle.std.proofs.lemmas.List.{take_at, drop-append-le, drop-take, length-take-le, length-drop}
 use Rattle.std.proofs.lemmas.Bool.{cond_both, cond-false, leb-true, lt-leb}
 use Rattle.refusal.specs.declared.Refusal.{Refusal}
+use Rattle.store.specs.declared.entry.Entry.{Entry}
 use Rattle.store.specs.Entries.{entry, sizes}
 use Rattle.store.specs.Stores.{Store, store, kept, Answer, answer, Held, held, outside, is_stored, full, beginning, written, storing, closing}
 use Rattle.store.specs.Contents.{overlays_in, Contents, content, contents}
@@ -26,8 +27,11 @@ ends id s m h =
     ap (contents m) (cond-false _ _ _ (lt-leb 64 _ h))
     ∙ ap (λ os. content os []) (overlays_append s.entries (entry id s.begun ∷ []) m)
 
+pub ends_pushed : (id : ℕ) (s : Store) (es : List Entry) (m : List ℕ) → length s.entries < 64 → es ≡ s.entries ++ (entry id s.begun ∷ []) → contents m (store es 0) ≡ ended id (contents m s)
+ends_pushed id s es m h e = ap (λ l. contents m (store l 0)) e ∙ ap (λ os. content os []) (overlays_append s.entries (entry id s.begun ∷ []) m)
+
 -- a command behind the bytes that are kept
-appends : (bs : List ℕ) (s : Store) (m : List ℕ) → kept s + length bs ≤ length m → contents (written m (kept s) bs) (store s.entries (s.begun + length bs)) ≡ appended bs (contents m s)
+pub appends : (bs : List ℕ) (s : Store) (m : List ℕ) → kept s + length bs ≤ length m → contents (written m (kept s) bs) (store s.entries (s.begun + length bs)) ≡ appended bs (contents m s)
 appends bs s m h =
     let es = s.entries in
     let n = sizes es in

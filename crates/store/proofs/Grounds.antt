@@ -6,7 +6,7 @@ use Rattle.refusal.specs.declared.Refusal.{Refusal}
 use Rattle.store.specs.declared.entry.Entry.{Entry}
 use Rattle.store.specs.declared.entry.Found.{Found}
 use Rattle.store.specs.Entries.{found_in}
-use Rattle.store.specs.Stores.{Store, kept, Answer, answer, Held, held, outside, is_stored, full, beginning, storing, deleting_at, deleting}
+use Rattle.store.specs.Stores.{Store, kept, Answer, Held, held, outside, is_stored, full, beginning, storing, deleting_at, deleting}
 use Rattle.store.specs.Contents.{overlays_in, bytes_in}
 use Rattle.store.specs.Laws.{BeginGrounds, StoreGrounds, DeleteGrounds}
 use Rattle.store.proofs.Parts.{part_of, part_in}
@@ -70,8 +70,8 @@ delete_at id s m =
     (λ ne. delete_found id s m (ltb-false 127 id in') (found_in s.entries id) refl))
 
 -- the same of what a call answered
-pub begin_grounds : (id : ℕ) (s t : Store) (r : Result (Unit {0}) Refusal) → answer t r ≡ beginning id s → BeginGrounds id s r
-begin_grounds id s t r e = subst (λ (o : Answer). BeginGrounds id s o.result) (sym e) (begin_at id s)
+pub begin_grounds : (id : ℕ) (s : Store) (r : Result (Unit {0}) Refusal) → r ≡ (beginning id s).result → BeginGrounds id s r
+begin_grounds id s r e = subst (BeginGrounds id s) (sym e) (begin_at id s)
 
 pub store_grounds : (bs : List ℕ) (s t : Store) (m n : List ℕ) (r : Result (Unit {0}) Refusal) → held t n r ≡ storing bs s m → StoreGrounds bs s m r
 store_grounds bs s t m n r e = subst (λ (o : Held). StoreGrounds bs s m o.result) (sym e) (store_at bs s m)

@@ -1,6 +1,5 @@
-pub mod Searching
 pub mod Sizes
-pub mod Tables
+pub mod Searching
 pub mod Parts
 pub mod Calls
 pub mod Holding

@@ -43,7 +43,7 @@ came (c ∷ cs) s u m n e =
 
 pub session : Session
 session id cs s t u m n begins sends =
-    let g = (begin_grounds id s t (Ok tt) (sym begins)).free refl in
+    let g = (begin_grounds id s (Ok tt) (ap (λ (o : Answer). o.result) (sym begins))).free refl in
     let b = began id s t (Ok tt) (sym begins) m in
     let c = came cs t u m n sends in
     let entries : t.entries ≡ s.entries = begun_entries (sym begins) in
