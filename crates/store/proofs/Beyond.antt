@@ -39,7 +39,7 @@ span_beyond m n k f inside e =
       where
         long : (b : Bool) → cond b (leb n (length m)) false ≡ true → n ≤ length m
         long true t = leb-true n (length m) t
-        long false t = absurd (let z : ◌≡◌ {A = ℕ} 0 1 = cc in omega arith)
+        long false t = absurd cc
 
 deleting_at_law : (id : ℕ) (s : Store) (m : List ℕ) (o : Option Found) → found_in s.entries id ≡ o → Beyond m (deleting_at o s m)
 deleting_at_law id s m None e = refl

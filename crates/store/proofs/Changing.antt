@@ -22,13 +22,11 @@ began id s t r e m =
     (λ _. cond_both (full s.entries) _ _ (Begun s m) (λ _. refl) (λ _. refl))))
 
 -- an end
-pub ends : (id : ℕ) (s : Store) (m : List ℕ) → length s.entries < 64 → contents m (closing id s) ≡ ended id (contents m s)
-ends id s m h =
-    ap (contents m) (cond-false _ _ _ (lt-leb 64 _ h))
-    ∙ ap (λ os. content os []) (overlays_append s.entries (entry id s.begun ∷ []) m)
-
 pub ends_pushed : (id : ℕ) (s : Store) (es : List Entry) (m : List ℕ) → length s.entries < 64 → es ≡ s.entries ++ (entry id s.begun ∷ []) → contents m (store es 0) ≡ ended id (contents m s)
 ends_pushed id s es m h e = ap (λ l. contents m (store l 0)) e ∙ ap (λ os. content os []) (overlays_append s.entries (entry id s.begun ∷ []) m)
+
+pub ends : (id : ℕ) (s : Store) (m : List ℕ) → length s.entries < 64 → contents m (closing id s) ≡ ended id (contents m s)
+ends id s m h = ap (contents m) (cond-false _ _ _ (lt-leb 64 _ h)) ∙ ends_pushed id s _ m h refl
 
 -- a command behind the bytes that are kept
 pub appends : (bs : List ℕ) (s : Store) (m : List ℕ) → kept s + length bs ≤ length m → contents (written m (kept s) bs) (store s.entries (s.begun + length bs)) ≡ appended bs (contents m s)

@@ -1,8 +1,8 @@
 -- A deletion leaves every byte of the other overlays.
-use Rattle.std.proofs.Common.{◌≡◌, ℕ, suc, ◌+◌, ◌-◌, ◌≤◌, Bool, true, false, cond, eqb, ltb, List, [], ◌∷◌, ◌++◌, length, get_or, take, drop, is_some, is_ok, Some, None, Option, Result, sym, refl, ap, ◌∙◌, subst, arith, drop-cons}
+use Rattle.std.proofs.Common.{◌≡◌, ℕ, suc, ◌+◌, ◌-◌, ◌<◌, ◌≤◌, Bool, true, false, cond, eqb, ltb, List, [], ◌∷◌, ◌++◌, length, get_or, take, drop, is_some, is_ok, Some, None, Option, Result, sym, refl, ap, ◌∙◌, subst, arith, drop-cons}
 use Rattle.std.specs.List.{remove}
 use Rattle.std.proofs.lemmas.List.{take-append-drop, take-take, drop-drop, length-take-le, length-drop}
-use Rattle.std.proofs.lemmas.Bool.{cond_both, cond-true, cond-false, eq-eqb}
+use Rattle.std.proofs.lemmas.Bool.{cond_both, cond-true, cond-false, eq-eqb, le-ltb, ne_eqb}
 use Rattle.refusal.specs.declared.Refusal.{Refusal}
 use Rattle.queue.proofs.Spans.{span_is, span_queue}
 use Rattle.store.specs.declared.entry.Entry.{Entry}
@@ -21,7 +21,7 @@ removed_middle id [] o ys none same = cond-true _ _ _ (eq-eqb _ _ same)
 removed_middle id (x ∷ xs) o ys none same = go (λ e. removed_middle id xs o ys e same) (eqb x.id id) none
   where
     go : (bytes_in xs id ≡ None → removed id (xs ++ (o ∷ ys)) ≡ xs ++ ys) → (b : Bool) → cond b (Some x.bytes) (bytes_in xs id) ≡ None → cond b (xs ++ (o ∷ ys)) (x ∷ removed id (xs ++ (o ∷ ys))) ≡ x ∷ (xs ++ ys)
-    go later true e = absurd (let z : ◌≡◌ {A = ℕ} 0 1 = cc in omega arith)
+    go later true e = absurd cc
     go later false e = ap (λ l. x ∷ l) (later e)
 
 -- the parts of the memory: before the overlay, its own, and behind it
@@ -114,3 +114,7 @@ deletes id s t m n r room e =
     (cond_both (ltb 127 id) _ _ (Deleted id s m) (λ _. refl)
     (λ _. cond_both (eqb id 0) _ _ (Deleted id s m) (λ z. sym (cond-true _ _ _ z))
     (λ ne. deletes_found id s m room ne (found_in s.entries id) refl)))
+
+-- one that is no deletion of all
+pub deletes_one : (id : ℕ) (s : Store) (m : List ℕ) (h : Held) → 0 < id → id ≤ 127 → h ≡ deleting_at (found_in s.entries id) s m → h ≡ deleting id s m
+deletes_one id s m h some le e = e ∙ sym (cond-false _ _ _ (ne_eqb id 0 (λ z. omega arith))) ∙ sym (cond-false _ _ _ (le-ltb 127 id le))

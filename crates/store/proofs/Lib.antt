@@ -1,7 +1,6 @@
 pub mod Sizes
 pub mod Searching
 pub mod Parts
-pub mod Calls
 pub mod Holding
 pub mod Grounds
 pub mod Changing

@@ -9,7 +9,7 @@ none_first : (o : Overlay) (os : List Overlay) (k : ℕ) → bytes_in (o ∷ os)
 none_first o os k e = go (eqb o.id k) refl e
   where
     go : (b : Bool) → eqb o.id k ≡ b → cond b (Some o.bytes) (bytes_in os k) ≡ None → (eqb o.id k ≡ false) × (bytes_in os k ≡ None)
-    go true is e = absurd (let z : ◌≡◌ {A = ℕ} 0 1 = cc in omega arith)
+    go true is e = absurd cc
     go false is e = (is, e)
 
 none_push : (os : List Overlay) (o : Overlay) (k : ℕ) → bytes_in os k ≡ None → eqb o.id k ≡ false → bytes_in (os ++ (o ∷ [])) k ≡ None

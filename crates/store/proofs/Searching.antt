@@ -47,5 +47,5 @@ not_found_by es id e = sym (not_found es 0 0 id (entry 0 0) (λ k l. fails_befor
     past = go (ltb (position_or_len (has_id id) es) (length es)) refl e
       where
         go : (b : Bool) → ltb (position_or_len (has_id id) es) (length es) ≡ b → cond b (Some (position_or_len (has_id id) es)) None ≡ None → length es ≤ position_or_len (has_id id) es
-        go true is e = absurd (let z : ◌≡◌ {A = ℕ} 0 1 = cc in omega arith)
+        go true is e = absurd cc
         go false is e = ltb-false _ _ is

@@ -27,7 +27,7 @@ after cs bs s t u m k n (Ok x) es did more e =
     }
 after cs bs s t u m k n (Err x) es did more e =
     let q : Err x ≡ Ok tt = ap (λ (h : Held). h.result) e in
-    absurd (let z : ◌≡◌ {A = ℕ} 0 1 = cc in omega arith)
+    absurd cc
 
 came : (cs : List (List ℕ)) (s u : Store) (m n : List ℕ) → sent cs s m ≡ held u n (Ok tt) → Came cs s u m n
 came [] s u m n e =

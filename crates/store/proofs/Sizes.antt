@@ -21,7 +21,7 @@ pub record Stands (a s : ℕ) (es : List Entry) (id : ℕ) (f : Found) : Type 0 
   pub before : found_from a s (take k es) id ≡ None
 
 pub stands_from : (a s : ℕ) (es : List Entry) (id : ℕ) (f : Found) → found_from a s es id ≡ Some f → Stands a s es id f
-stands_from a s [] id f e = absurd (let z : ◌≡◌ {A = ℕ} 0 1 = cc in omega arith)
+stands_from a s [] id f e = absurd cc
 stands_from a s (x ∷ xs) id f e = go (stands_from (a + 1) (s + x.size) xs id f) (eqb x.id id) refl e
   where
     go : (found_from (a + 1) (s + x.size) xs id ≡ Some f → Stands (a + 1) (s + x.size) xs id f) → (b : Bool) → eqb x.id id ≡ b → cond b (Some (found a s x.size)) (found_from (a + 1) (s + x.size) xs id) ≡ Some f → Stands a s (x ∷ xs) id f
@@ -63,3 +63,7 @@ module _ (es : List Entry) (id : ℕ) (f : Found) (h : Stands 0 0 es id f) where
   size_out =
       let e : f.at ≡ h.k = omega (arith, h.at) in
       ap (λ n. sizes (remove es n) + f.size) e ∙ ap (λ n. sizes (remove es h.k) + n) (h.size (entry 0 0)) ∙ sum_by-remove size_of es h.k (entry 0 0) h.inside
+
+-- an entry that was found leaves the table
+pub sizes_out : (es : List Entry) (id : ℕ) (f : Found) → found_in es id ≡ Some f → sizes (remove es f.at) + f.size ≡ sizes es
+sizes_out es id f e = size_out es id f (stands es id f e)
