@@ -1,5 +1,5 @@
 -- A deletion leaves every byte of the other overlays.
-use Rattle.std.proofs.Common.{◌≡◌, ℕ, suc, ◌+◌, ◌-◌, ◌<◌, ◌≤◌, Bool, true, false, cond, eqb, ltb, List, [], ◌∷◌, ◌++◌, length, get_or, take, drop, is_some, is_ok, Some, None, Option, Result, sym, refl, ap, ◌∙◌, subst, arith, drop-cons}
+use Rattle.std.proofs.Common.{◌≡◌, ℕ, suc, ◌+◌, ◌-◌, ◌<◌, ◌≤◌, false, cond, eqb, ltb, List, [], ◌∷◌, ◌++◌, length, get_or, take, drop, is_some, is_ok, Some, None, Option, Result, sym, refl, ap, ◌∙◌, subst, arith, drop-cons}
 use Rattle.std.specs.List.{remove}
 use Rattle.std.proofs.lemmas.List.{take-append-drop, take-take, drop-drop, length-take-le, length-drop}
 use Rattle.std.proofs.lemmas.Bool.{cond_both, cond-true, cond-false, eq-eqb, le-ltb, ne_eqb}
@@ -13,16 +13,15 @@ use Rattle.store.specs.Contents.{Overlay, overlay, overlays_in, bytes_in, Conten
 use Rattle.store.specs.Laws.{removed, deleted}
 use Rattle.store.proofs.Sizes.{Stands, stands, size_within, size_out}
 use Rattle.store.proofs.Holding.{contents_front, contents_split}
+use Rattle.store.proofs.Onces.{none_first}
 use Rattle.store.proofs.Grounds.{stored_not}
 
 -- the first overlay with the ID leaves
 removed_middle : (id : ℕ) (xs : List Overlay) (o : Overlay) (ys : List Overlay) → bytes_in xs id ≡ None → o.id ≡ id → removed id (xs ++ (o ∷ ys)) ≡ xs ++ ys
 removed_middle id [] o ys none same = cond-true _ _ _ (eq-eqb _ _ same)
-removed_middle id (x ∷ xs) o ys none same = go (λ e. removed_middle id xs o ys e same) (eqb x.id id) none
-  where
-    go : (bytes_in xs id ≡ None → removed id (xs ++ (o ∷ ys)) ≡ xs ++ ys) → (b : Bool) → cond b (Some x.bytes) (bytes_in xs id) ≡ None → cond b (xs ++ (o ∷ ys)) (x ∷ removed id (xs ++ (o ∷ ys))) ≡ x ∷ (xs ++ ys)
-    go later true e = absurd cc
-    go later false e = ap (λ l. x ∷ l) (later e)
+removed_middle id (x ∷ xs) o ys none same =
+    let h = none_first x xs id none in
+    cond-false _ _ _ h.0 ∙ ap (λ l. x ∷ l) (removed_middle id xs o ys h.1 same)
 
 -- the parts of the memory: before the overlay, its own, and behind it
 module _ (s : Store) (m : List ℕ) (id : ℕ) (f : Found) (h : Stands 0 0 s.entries id f) (room : kept s ≤ length m) where

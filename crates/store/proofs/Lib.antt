@@ -5,6 +5,6 @@ pub mod Holding
 pub mod Grounds
 pub mod Changing
 pub mod Sessions
-pub mod Deleting
 pub mod Onces
+pub mod Deleting
 pub mod Beyond

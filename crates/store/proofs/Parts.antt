@@ -1,10 +1,11 @@
 -- Where an overlay's bytes are in the memory.
-use Rattle.std.proofs.Common.{◌≡◌, ℕ, ◌+◌, ◌-◌, min, Bool, true, false, cond, eqb, List, [], ◌∷◌, length, take, drop, Some, refl, ap, ◌∙◌}
+use Rattle.std.proofs.Common.{◌≡◌, ℕ, ◌+◌, ◌-◌, min, List, [], ◌∷◌, length, take, drop, refl, ap, ◌∙◌, arith}
 use Rattle.std.specs.Option.{option_map}
 use Rattle.std.proofs.lemmas.List.{take_rest, take_min, drop_min, drop-drop}
+use Rattle.std.proofs.lemmas.Bool.Decides.{nat_tests}
 use Rattle.store.specs.declared.entry.Entry.{Entry}
 use Rattle.store.specs.declared.entry.Found.{Found}
-use Rattle.store.specs.Entries.{found, found_from, found_in}
+use Rattle.store.specs.Entries.{found_from, found_in}
 use Rattle.store.specs.Contents.{overlays_in, bytes_in}
 
 abbrev pub part_of : List ℕ → Found → List ℕ
@@ -13,11 +14,9 @@ part_of m f = take f.size (drop f.start m)
 -- the search finds the overlay's bytes
 pub part_from : (es : List Entry) (m : List ℕ) (a s id : ℕ) → bytes_in (overlays_in es (drop s m)) id ≡ option_map (part_of m) (found_from a s es id)
 part_from [] m a s id = refl
-part_from (e ∷ es) m a s id = go (part_from es m (a + 1) (s + e.size) id) (eqb e.id id)
-  where
-    go : bytes_in (overlays_in es (drop (s + e.size) m)) id ≡ option_map (part_of m) (found_from (a + 1) (s + e.size) es id) → (b : Bool) → cond b (Some (take e.size (drop s m))) (bytes_in (overlays_in es (drop e.size (drop s m))) id) ≡ option_map (part_of m) (cond b (Some (found a s e.size)) (found_from (a + 1) (s + e.size) es id))
-    go later true = refl
-    go later false = ap (λ l. bytes_in (overlays_in es l) id) (drop-drop e.size s m) ∙ later
+part_from (e ∷ es) m a s id =
+    let later = part_from es m (a + 1) (s + e.size) id in
+    rw (drop-drop e.size s m) (grind (arith, nat_tests))
 
 pub part_in : (es : List Entry) (m : List ℕ) (id : ℕ) → bytes_in (overlays_in es m) id ≡ option_map (part_of m) (found_in es id)
 part_in es m id = part_from es m 0 0 id

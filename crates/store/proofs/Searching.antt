@@ -1,7 +1,8 @@
 -- A search through the table: what it finds is at the first entry with the ID.
-use Rattle.std.proofs.Common.{◌≡◌, ℕ, zero, suc, ◌+◌, ◌<◌, ◌≤◌, ◌^◌, Bool, true, false, cond, eqb, ltb, List, [], ◌∷◌, length, get_or, map, sum, take, Some, None, sym, refl, ◌∙◌, arith}
+use Rattle.std.proofs.Common.{◌≡◌, ℕ, zero, suc, ◌+◌, ◌<◌, ◌≤◌, ◌^◌, Bool, true, false, eqb, List, [], ◌∷◌, length, get_or, map, sum, take, Some, None, sym, refl, ◌∙◌, arith}
 use Rattle.std.specs.List.{position, position_or_len}
-use Rattle.std.proofs.lemmas.Bool.{cond-true, cond-false, ltb-false}
+use Rattle.std.proofs.lemmas.Bool.{cond-true, cond-false}
+use Rattle.std.proofs.lemmas.Bool.Decides.{nat_tests}
 use Rattle.std.proofs.lemmas.List.Sums.{sum_by-cons, sum_by-take-le, sum-map, fails_before_first}
 use Rattle.std.proofs.lemmas.List.Quantifiers.{position-Some}
 use Rattle.store.specs.declared.entry.Entry.{Entry}
@@ -41,11 +42,6 @@ found_by es id at n e is =
     (λ k. Some (found (i k) (j k) (get_or es at (entry 0 0)).size)) ∙ sym (found_first es 0 0 id at (entry 0 0) h.0 h.1 h.2)
 
 pub not_found_by : (es : List Entry) (id : ℕ) → position (has_id id) es ≡ None → None ≡ found_in es id
-not_found_by es id e = sym (not_found es 0 0 id (entry 0 0) (λ k l. fails_before_first (has_id id) es k (entry 0 0) (omega (arith, past))))
-  where
-    past : length es ≤ position_or_len (has_id id) es
-    past = go (ltb (position_or_len (has_id id) es) (length es)) refl e
-      where
-        go : (b : Bool) → ltb (position_or_len (has_id id) es) (length es) ≡ b → cond b (Some (position_or_len (has_id id) es)) None ≡ None → length es ≤ position_or_len (has_id id) es
-        go true is e = absurd cc
-        go false is e = ltb-false _ _ is
+not_found_by es id e =
+    let past : length es ≤ position_or_len (has_id id) es = grind (arith, nat_tests) in
+    sym (not_found es 0 0 id (entry 0 0) (λ k l. fails_before_first (has_id id) es k (entry 0 0) (omega arith)))
