@@ -2,9 +2,11 @@
 use Rattle.std.proofs.Common.{◌≡◌, ℕ, ◌+◌, ◌-◌, ◌<◌, ◌≤◌, cond, leb, List, [], ◌∷◌, ◌++◌, length, take, drop, is_ok, Result, sym, refl, ap, ◌∙◌, subst, append_assoc, arith, length-append}
 use Rattle.std.proofs.lemmas.List.{take_at, drop-append-le, drop-take, length-take-le, length-drop}
 use Rattle.std.proofs.lemmas.Bool.{cond_both, cond-false, leb-true, lt-leb}
+use Rattle.std.proofs.lemmas.Bool.Decides.{nat_tests}
 use Rattle.refusal.specs.declared.Refusal.{Refusal}
+use Rattle.store.specs.declared.entry.Entry.{Entry}
 use Rattle.store.specs.Entries.{entry, sizes}
-use Rattle.store.specs.Stores.{Store, store, kept, Answer, answer, Held, held, outside, is_stored, full, beginning, written, storing, closing}
+use Rattle.store.specs.Stores.{Store, store, kept, Answer, answer, Held, held, beginning, written, storing, closing}
 use Rattle.store.specs.Contents.{overlays_in, Contents, content, contents}
 use Rattle.store.specs.Laws.{emptied, appended, ended}
 use Rattle.store.proofs.Holding.{overlays_append, same_front}
@@ -13,21 +15,21 @@ use Rattle.store.proofs.Holding.{overlays_append, same_front}
 abbrev Begun : Store → List ℕ → Answer → Type 0
 Begun s m o = contents m o.store ≡ cond (is_ok o.result) (emptied (contents m s)) (contents m s)
 
+begun : (id : ℕ) (s : Store) (m : List ℕ) → Begun s m (beginning id s)
+begun id s m = grind (arith, nat_tests)
+
 pub began : (id : ℕ) (s t : Store) (r : Result (Unit {0}) Refusal) → answer t r ≡ beginning id s → (m : List ℕ) → contents m t ≡ cond (is_ok r) (emptied (contents m s)) (contents m s)
-began id s t r e m =
-    subst (Begun s m) (sym e)
-    (cond_both (outside id) _ _ (Begun s m) (λ _. refl)
-    (λ _. cond_both (is_stored s.entries id) _ _ (Begun s m) (λ _. refl)
-    (λ _. cond_both (full s.entries) _ _ (Begun s m) (λ _. refl) (λ _. refl))))
+began id s t r e m = subst (Begun s m) (sym e) (begun id s m)
 
 -- an end
+pub ends_pushed : (id : ℕ) (s : Store) (es : List Entry) (m : List ℕ) → length s.entries < 64 → es ≡ s.entries ++ (entry id s.begun ∷ []) → contents m (store es 0) ≡ ended id (contents m s)
+ends_pushed id s es m h e = ap (λ l. contents m (store l 0)) e ∙ ap (λ os. content os []) (overlays_append s.entries (entry id s.begun ∷ []) m)
+
 pub ends : (id : ℕ) (s : Store) (m : List ℕ) → length s.entries < 64 → contents m (closing id s) ≡ ended id (contents m s)
-ends id s m h =
-    ap (contents m) (cond-false _ _ _ (lt-leb 64 _ h))
-    ∙ ap (λ os. content os []) (overlays_append s.entries (entry id s.begun ∷ []) m)
+ends id s m h = ap (contents m) (cond-false _ _ _ (lt-leb 64 _ h)) ∙ ends_pushed id s _ m h refl
 
 -- a command behind the bytes that are kept
-appends : (bs : List ℕ) (s : Store) (m : List ℕ) → kept s + length bs ≤ length m → contents (written m (kept s) bs) (store s.entries (s.begun + length bs)) ≡ appended bs (contents m s)
+pub appends : (bs : List ℕ) (s : Store) (m : List ℕ) → kept s + length bs ≤ length m → contents (written m (kept s) bs) (store s.entries (s.begun + length bs)) ≡ appended bs (contents m s)
 appends bs s m h =
     let es = s.entries in
     let n = sizes es in

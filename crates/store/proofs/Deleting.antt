@@ -1,27 +1,27 @@
 -- A deletion leaves every byte of the other overlays.
-use Rattle.std.proofs.Common.{◌≡◌, ℕ, ◌+◌, ◌-◌, ◌≤◌, Bool, true, false, cond, eqb, ltb, List, [], ◌∷◌, ◌++◌, length, get_or, take, drop, is_some, is_ok, Some, None, Option, Result, sym, refl, ap, ◌∙◌, subst, arith}
-use Rattle.std.proofs.lemmas.List.{take-append-drop, take-take, drop-drop, drop_more, length-take-le, length-drop}
-use Rattle.std.proofs.lemmas.Bool.{cond_both, cond-true, cond-false, eq-eqb}
+use Rattle.std.proofs.Common.{◌≡◌, ℕ, suc, ◌+◌, ◌-◌, ◌<◌, ◌≤◌, false, cond, eqb, ltb, List, [], ◌∷◌, ◌++◌, length, get_or, take, drop, is_some, is_ok, Some, None, Option, Result, sym, refl, ap, ◌∙◌, subst, arith, drop-cons}
+use Rattle.std.specs.List.{remove}
+use Rattle.std.proofs.lemmas.List.{take-append-drop, take-take, drop-drop, length-take-le, length-drop}
+use Rattle.std.proofs.lemmas.Bool.{cond_both, cond-true, cond-false, eq-eqb, le-ltb, ne_eqb}
 use Rattle.refusal.specs.declared.Refusal.{Refusal}
 use Rattle.queue.proofs.Spans.{span_is, span_queue}
 use Rattle.store.specs.declared.entry.Entry.{Entry}
 use Rattle.store.specs.declared.entry.Found.{Found}
-use Rattle.store.specs.Entries.{entry, sizes, found_in, without}
+use Rattle.store.specs.Entries.{entry, sizes, found_in}
 use Rattle.store.specs.Stores.{Store, store, kept, Held, held, closed_up, deleting_at, deleting}
 use Rattle.store.specs.Contents.{Overlay, overlay, overlays_in, bytes_in, Contents, content, contents}
 use Rattle.store.specs.Laws.{removed, deleted}
 use Rattle.store.proofs.Sizes.{Stands, stands, size_within, size_out}
 use Rattle.store.proofs.Holding.{contents_front, contents_split}
+use Rattle.store.proofs.Onces.{none_first}
 use Rattle.store.proofs.Grounds.{stored_not}
 
 -- the first overlay with the ID leaves
 removed_middle : (id : ℕ) (xs : List Overlay) (o : Overlay) (ys : List Overlay) → bytes_in xs id ≡ None → o.id ≡ id → removed id (xs ++ (o ∷ ys)) ≡ xs ++ ys
 removed_middle id [] o ys none same = cond-true _ _ _ (eq-eqb _ _ same)
-removed_middle id (x ∷ xs) o ys none same = go (λ e. removed_middle id xs o ys e same) (eqb x.id id) none
-  where
-    go : (bytes_in xs id ≡ None → removed id (xs ++ (o ∷ ys)) ≡ xs ++ ys) → (b : Bool) → cond b (Some x.bytes) (bytes_in xs id) ≡ None → cond b (xs ++ (o ∷ ys)) (x ∷ removed id (xs ++ (o ∷ ys))) ≡ x ∷ (xs ++ ys)
-    go later true e = absurd (let z : ◌≡◌ {A = ℕ} 0 1 = cc in omega arith)
-    go later false e = ap (λ l. x ∷ l) (later e)
+removed_middle id (x ∷ xs) o ys none same =
+    let h = none_first x xs id none in
+    cond-false _ _ _ h.0 ∙ ap (λ l. x ∷ l) (removed_middle id xs o ys h.1 same)
 
 -- the parts of the memory: before the overlay, its own, and behind it
 module _ (s : Store) (m : List ℕ) (id : ℕ) (f : Found) (h : Stands 0 0 s.entries id f) (room : kept s ≤ length m) where
@@ -44,7 +44,7 @@ module _ (s : Store) (m : List ℕ) (id : ℕ) (f : Found) (h : Stands 0 0 s.ent
   it = get_or s.entries h.k (entry 0 0)
 
   abbrev behind : List Entry
-  behind = drop (h.k + 1) s.entries
+  behind = drop (suc h.k) s.entries
 
   fits : f.start + f.size ≤ kept s
   fits = omega (arith, size_within s.entries id f h)
@@ -56,7 +56,7 @@ module _ (s : Store) (m : List ℕ) (id : ℕ) (f : Found) (h : Stands 0 0 s.ent
       (sym (take-append-drop f.size (drop f.start (take (kept s) m))) ∙ ap (λ l. take f.size (drop f.start (take (kept s) m)) ++ l) (drop-drop f.size f.start (take (kept s) m)))
 
   in_entries : s.entries ≡ before ++ (it ∷ behind)
-  in_entries = sym (take-append-drop h.k s.entries) ∙ ap (λ l. take h.k s.entries ++ l) (drop_more s.entries h.k (entry 0 0) h.inside)
+  in_entries = sym (take-append-drop h.k s.entries) ∙ ap (λ l. take h.k s.entries ++ l) (drop-cons s.entries h.k (entry 0 0) h.inside)
 
   front_long : length front ≡ sizes before
   front_long =
@@ -79,9 +79,9 @@ module _ (s : Store) (m : List ℕ) (id : ℕ) (f : Found) (h : Stands 0 0 s.ent
       ∙ (λ i. content (overlays_in before front ++ (two i).stored) (two i).begun)
 
   -- what is there now
-  is : contents (closed_up m (kept s) f) (store (without f.at s.entries) s.begun) ≡ content (overlays_in before front ++ overlays_in behind back) (take s.begun (drop (sizes behind) back))
+  is : contents (closed_up m (kept s) f) (store (remove s.entries f.at) s.begun) ≡ content (overlays_in before front ++ overlays_in behind back) (take s.begun (drop (sizes behind) back))
   is =
-      let t = store (without f.at s.entries) s.begun in
+      let t = store (remove s.entries f.at) s.begun in
       let n = kept s - f.size in
       let less : kept t ≤ n = omega (arith, size_out s.entries id f h) in
       let at : f.at ≡ h.k = omega (arith, h.at) in
@@ -90,10 +90,10 @@ module _ (s : Store) (m : List ℕ) (id : ℕ) (f : Found) (h : Stands 0 0 s.ent
       ∙ span_queue m (kept s) f.start f.size fits room
       ∙ ap (λ l. l ++ drop (f.start + f.size) (take (kept s) m)) (sym (take-take f.start (kept s) m (omega (arith, fits)))) in
       sym (contents_front t (closed_up m (kept s) f) n less)
-      ∙ (λ i. contents (cut i) (store (without (at i) s.entries) s.begun))
+      ∙ (λ i. contents (cut i) (store (remove s.entries (at i)) s.begun))
       ∙ contents_split before behind front back s.begun front_long
 
-  pub taken_away : contents (closed_up m (kept s) f) (store (without f.at s.entries) s.begun) ≡ content (removed id (contents m s).stored) (contents m s).begun
+  pub taken_away : contents (closed_up m (kept s) f) (store (remove s.entries f.at) s.begun) ≡ content (removed id (contents m s).stored) (contents m s).begun
   taken_away =
       let none : bytes_in (overlays_in before front) id ≡ None = stored_not before id (ap is_some h.before) front in
       is
@@ -113,3 +113,7 @@ deletes id s t m n r room e =
     (cond_both (ltb 127 id) _ _ (Deleted id s m) (λ _. refl)
     (λ _. cond_both (eqb id 0) _ _ (Deleted id s m) (λ z. sym (cond-true _ _ _ z))
     (λ ne. deletes_found id s m room ne (found_in s.entries id) refl)))
+
+-- one that is no deletion of all
+pub deletes_one : (id : ℕ) (s : Store) (m : List ℕ) (h : Held) → 0 < id → id ≤ 127 → h ≡ deleting_at (found_in s.entries id) s m → h ≡ deleting id s m
+deletes_one id s m h some le e = e ∙ sym (cond-false _ _ _ (ne_eqb id 0 (λ z. omega arith))) ∙ sym (cond-false _ _ _ (le-ltb 127 id le))

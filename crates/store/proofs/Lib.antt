@@ -1,12 +1,10 @@
-pub mod Searching
 pub mod Sizes
-pub mod Tables
+pub mod Searching
 pub mod Parts
-pub mod Calls
 pub mod Holding
 pub mod Grounds
 pub mod Changing
 pub mod Sessions
-pub mod Deleting
 pub mod Onces
+pub mod Deleting
 pub mod Beyond

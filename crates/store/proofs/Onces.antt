@@ -1,16 +1,13 @@
 -- No two overlays have one ID.
-use Rattle.std.proofs.Common.{◌≡◌, ℕ, Bool, true, false, cond, eqb, List, [], ◌∷◌, ◌++◌, Some, None, sym, refl, ap, ◌∙◌, subst, arith}
+use Rattle.std.proofs.Common.{◌≡◌, ℕ, false, cond, eqb, List, [], ◌∷◌, ◌++◌, Some, None, sym, refl, ap, ◌∙◌, subst, arith}
 use Rattle.std.proofs.lemmas.Bool.{cond_both, cond-false, eqb-true, eqb-false, ne_eqb}
+use Rattle.std.proofs.lemmas.Bool.Decides.{nat_tests}
 use Rattle.store.specs.Contents.{Overlay, overlay, bytes_in, Contents}
 use Rattle.store.specs.Laws.{removed, Once, OnceLaws}
 
 -- an ID that is not among the overlays
-none_first : (o : Overlay) (os : List Overlay) (k : ℕ) → bytes_in (o ∷ os) k ≡ None → (eqb o.id k ≡ false) × (bytes_in os k ≡ None)
-none_first o os k e = go (eqb o.id k) refl e
-  where
-    go : (b : Bool) → eqb o.id k ≡ b → cond b (Some o.bytes) (bytes_in os k) ≡ None → (eqb o.id k ≡ false) × (bytes_in os k ≡ None)
-    go true is e = absurd (let z : ◌≡◌ {A = ℕ} 0 1 = cc in omega arith)
-    go false is e = (is, e)
+pub none_first : (o : Overlay) (os : List Overlay) (k : ℕ) → bytes_in (o ∷ os) k ≡ None → (eqb o.id k ≡ false) × (bytes_in os k ≡ None)
+none_first o os k e = grind (arith, nat_tests)
 
 none_push : (os : List Overlay) (o : Overlay) (k : ℕ) → bytes_in os k ≡ None → eqb o.id k ≡ false → bytes_in (os ++ (o ∷ [])) k ≡ None
 none_push [] o k e ne = cond-false _ _ _ ne

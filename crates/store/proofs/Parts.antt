@@ -1,11 +1,11 @@
 -- Where an overlay's bytes are in the memory.
-use Rattle.std.proofs.Common.{◌≡◌, ℕ, ◌+◌, ◌-◌, ◌<◌, ◌≤◌, min, Bool, true, false, cond, eqb, ◌⊎◌, List, [], ◌∷◌, length, take, drop, Some, sym, refl, ap, ◌∙◌, inl, inr, arith}
+use Rattle.std.proofs.Common.{◌≡◌, ℕ, ◌+◌, ◌-◌, min, List, [], ◌∷◌, length, take, drop, refl, ap, ◌∙◌, arith}
 use Rattle.std.specs.Option.{option_map}
-use Rattle.std.proofs.lemmas.List.{take_all, drop_all, drop-drop, length-drop}
-use Rattle.std.proofs.lemmas.Bool.{cases_lt}
+use Rattle.std.proofs.lemmas.List.{take_rest, take_min, drop_min, drop-drop}
+use Rattle.std.proofs.lemmas.Bool.Decides.{nat_tests}
 use Rattle.store.specs.declared.entry.Entry.{Entry}
 use Rattle.store.specs.declared.entry.Found.{Found}
-use Rattle.store.specs.Entries.{found, found_from, found_in}
+use Rattle.store.specs.Entries.{found_from, found_in}
 use Rattle.store.specs.Contents.{overlays_in, bytes_in}
 
 abbrev pub part_of : List ℕ → Found → List ℕ
@@ -14,32 +14,15 @@ part_of m f = take f.size (drop f.start m)
 -- the search finds the overlay's bytes
 pub part_from : (es : List Entry) (m : List ℕ) (a s id : ℕ) → bytes_in (overlays_in es (drop s m)) id ≡ option_map (part_of m) (found_from a s es id)
 part_from [] m a s id = refl
-part_from (e ∷ es) m a s id = go (part_from es m (a + 1) (s + e.size) id) (eqb e.id id)
-  where
-    go : bytes_in (overlays_in es (drop (s + e.size) m)) id ≡ option_map (part_of m) (found_from (a + 1) (s + e.size) es id) → (b : Bool) → cond b (Some (take e.size (drop s m))) (bytes_in (overlays_in es (drop e.size (drop s m))) id) ≡ option_map (part_of m) (cond b (Some (found a s e.size)) (found_from (a + 1) (s + e.size) es id))
-    go later true = refl
-    go later false = ap (λ l. bytes_in (overlays_in es l) id) (drop-drop e.size s m) ∙ later
+part_from (e ∷ es) m a s id =
+    let later = part_from es m (a + 1) (s + e.size) id in
+    rw (drop-drop e.size s m) (grind (arith, nat_tests))
 
 pub part_in : (es : List Entry) (m : List ℕ) (id : ℕ) → bytes_in (overlays_in es m) id ≡ option_map (part_of m) (found_in es id)
 part_in es m id = part_from es m 0 0 id
 
-take_min : (n : ℕ) (xs : List ℕ) (k : ℕ) → k ≡ min n (length xs) → take k xs ≡ take n xs
-take_min n xs k e = go (cases_lt n (length xs))
-  where
-    go : (n < length xs) ⊎ (length xs ≤ n) → take k xs ≡ take n xs
-    go (inl l) = let i : k ≡ n = omega arith in ap (λ j. take j xs) i
-    go (inr l) = take_all k xs (omega arith) ∙ sym (take_all n xs l)
-
 -- a part of the memory, cut where the memory ends
-pub cut_part : (m : List ℕ) (s n a b : ℕ) → a ≡ min s (length m) → b ≡ min (s + n) (length m) → take (b - a) (drop a m) ≡ take n (drop s m)
-cut_part m s n a b ea eb = go (cases_lt s (length m))
-  where
-    go : (s < length m) ⊎ (length m ≤ s) → take (b - a) (drop a m) ≡ take n (drop s m)
-    go (inl l) =
-        let i : a ≡ s = omega arith in
-        let d = length-drop s m in
-        ap (λ j. take (b - a) (drop j m)) i ∙ take_min n (drop s m) (b - a) (omega arith)
-    go (inr l) =
-        let i : drop a m ≡ [] = drop_all a m (omega arith) in
-        let j : drop s m ≡ [] = drop_all s m l in
-        ap (take (b - a)) i ∙ take_all (b - a) [] (omega arith) ∙ sym (take_all n [] (omega arith)) ∙ ap (take n) (sym j)
+pub cut_part : (m : List ℕ) (s n a b : ℕ) → a ≡ min s (length m) → b ≡ min n (length (take (length m - a) (drop a m))) → take b (take (length m - a) (drop a m)) ≡ take n (drop s m)
+cut_part m s n a b ea eb =
+    ap (λ k. take k (take (length m - a) (drop a m))) eb ∙ take_min n (take (length m - a) (drop a m))
+    ∙ ap (take n) (take_rest m a ∙ ap (λ k. drop k m) ea ∙ drop_min s m)

@@ -1,9 +1,9 @@
 -- A whole overlay, from its beginning to its end.
-use Rattle.std.proofs.Common.{◌≡◌, ℕ, ◌<◌, leb, List, [], ◌∷◌, length, Ok, Err, Result, sym, refl, ap, ◌∙◌, subst, append_assoc, arith}
+use Rattle.std.proofs.Common.{◌≡◌, ℕ, ◌<◌, List, [], ◌∷◌, length, Ok, Err, Result, sym, refl, ap, ◌∙◌, append_assoc, arith}
 use Rattle.std.proofs.lemmas.List.{append-nil}
-use Rattle.std.proofs.lemmas.Bool.{cond_both}
+use Rattle.std.proofs.lemmas.Bool.Decides.{nat_tests}
 use Rattle.refusal.specs.declared.Refusal.{Refusal}
-use Rattle.store.specs.Stores.{Store, Answer, answer, Held, held, outside, is_stored, full, beginning, storing}
+use Rattle.store.specs.Stores.{Store, Answer, Held, held, beginning, storing}
 use Rattle.store.specs.Contents.{content, contents}
 use Rattle.store.specs.Laws.{appended, ended, then_held, sent, bytes_of, Session}
 use Rattle.store.proofs.Grounds.{begin_grounds}
@@ -11,7 +11,10 @@ use Rattle.store.proofs.Changing.{began, ends, stored}
 
 -- a command that is stored leaves the entries
 same_entries : (bs : List ℕ) (s : Store) (m : List ℕ) → (storing bs s m).store.entries ≡ s.entries
-same_entries bs s m = cond_both (leb _ (length m)) _ _ (λ (o : Held). o.store.entries ≡ s.entries) (λ _. refl) (λ _. refl)
+same_entries bs s m = grind (arith, nat_tests)
+
+begun_entries : (id : ℕ) (s : Store) → (beginning id s).store.entries ≡ s.entries
+begun_entries id s = grind (arith, nat_tests)
 
 -- commands that are all stored
 record Came (cs : List (List ℕ)) (s u : Store) (m n : List ℕ) : Type 0 where
@@ -27,7 +30,7 @@ after cs bs s t u m k n (Ok x) es did more e =
     }
 after cs bs s t u m k n (Err x) es did more e =
     let q : Err x ≡ Ok tt = ap (λ (h : Held). h.result) e in
-    absurd (let z : ◌≡◌ {A = ℕ} 0 1 = cc in omega arith)
+    absurd cc
 
 came : (cs : List (List ℕ)) (s u : Store) (m n : List ℕ) → sent cs s m ≡ held u n (Ok tt) → Came cs s u m n
 came [] s u m n e =
@@ -43,12 +46,9 @@ came (c ∷ cs) s u m n e =
 
 pub session : Session
 session id cs s t u m n begins sends =
-    let g = (begin_grounds id s t (Ok tt) (sym begins)).free refl in
+    let g = (begin_grounds id s (Ok tt) (ap (λ (o : Answer). o.result) (sym begins))).free refl in
     let b = began id s t (Ok tt) (sym begins) m in
     let c = came cs t u m n sends in
-    let entries : t.entries ≡ s.entries = begun_entries (sym begins) in
+    let entries : t.entries ≡ s.entries = ap (λ (o : Answer). o.store.entries) (sym begins) ∙ begun_entries id s in
     let few : length u.entries < 64 = omega (arith, ap length (c.entries ∙ entries), g.3) in
     ends id u n few ∙ ap (ended id) (c.held' ∙ ap (appended (bytes_of cs)) b)
-  where
-    begun_entries : answer t (Ok tt) ≡ beginning id s → t.entries ≡ s.entries
-    begun_entries e = subst (λ (o : Answer). o.store.entries ≡ s.entries) (sym e) (cond_both (outside id) _ _ (λ (o : Answer). o.store.entries ≡ s.entries) (λ _. refl) (λ _. cond_both (is_stored s.entries id) _ _ (λ (o : Answer). o.store.entries ≡ s.entries) (λ _. refl) (λ _. cond_both (full s.entries) _ _ (λ (o : Answer). o.store.entries ≡ s.entries) (λ _. refl) (λ _. refl))))

@@ -1,28 +1,14 @@
 -- Sums of sizes, and where a search finds an overlay.
-use Rattle.std.proofs.Common.{◌≡◌, ℕ, suc, ◌+◌, ◌<◌, ◌≤◌, Bool, true, false, cond, eqb, List, [], ◌∷◌, ◌++◌, length, get_or, take, drop, Some, None, sym, refl, ap, ◌∙◌, arith}
-use Rattle.std.proofs.lemmas.List.{take-append-drop, drop_more}
+use Rattle.std.proofs.Common.{◌≡◌, ℕ, suc, ◌+◌, ◌<◌, ◌≤◌, Bool, true, false, cond, eqb, List, [], ◌∷◌, length, get_or, take, Some, None, sym, refl, ap, ◌∙◌, arith}
+use Rattle.std.specs.List.{remove}
+use Rattle.std.proofs.lemmas.List.Sums.{sum_by-cons, sum_by_more_le, sum_by-remove}
 use Rattle.std.proofs.lemmas.Bool.{eqb-true, cond-false}
 use Rattle.store.specs.declared.entry.Entry.{Entry}
 use Rattle.store.specs.declared.entry.Found.{Found}
-use Rattle.store.specs.Entries.{entry, found, sizes, found_from, found_in, without}
+use Rattle.store.specs.Entries.{entry, found, sizes, found_from, found_in}
 
-pub sizes_append : (xs ys : List Entry) → sizes (xs ++ ys) ≡ sizes xs + sizes ys
-sizes_append [] ys = omega arith
-sizes_append (x ∷ xs) ys = let h = sizes_append xs ys in omega arith
-
-pub sizes_push : (xs : List Entry) (e : Entry) → sizes (xs ++ (e ∷ [])) ≡ sizes xs + e.size
-sizes_push xs e = sizes_append xs (e ∷ []) ∙ (omega arith)
-
--- the entries before a place, the one there, and those behind it
-pub sizes_split : (es : List Entry) (k : ℕ) (d : Entry) → k < length es → sizes es ≡ sizes (take k es) + ((get_or es k d).size + sizes (drop (k + 1) es))
-sizes_split es k d h =
-    ap sizes (sym (take-append-drop k es)) ∙ sizes_append (take k es) (drop k es) ∙ ap (λ l. sizes (take k es) + sizes l) (drop_more es k d h)
-
-pub sizes_without : (es : List Entry) (k : ℕ) (d : Entry) → k < length es → sizes (without k es) + (get_or es k d).size ≡ sizes es
-sizes_without es k d h =
-    let a = sizes_split es k d h in
-    let b = sizes_append (take k es) (drop (k + 1) es) in
-    omega arith
+abbrev pub size_of : Entry → ℕ
+size_of e = e.size
 
 -- what a search from a place on finds: the k-th entry from there, and none before it
 pub record Stands (a s : ℕ) (es : List Entry) (id : ℕ) (f : Found) : Type 0 where
@@ -35,7 +21,7 @@ pub record Stands (a s : ℕ) (es : List Entry) (id : ℕ) (f : Found) : Type 0 
   pub before : found_from a s (take k es) id ≡ None
 
 pub stands_from : (a s : ℕ) (es : List Entry) (id : ℕ) (f : Found) → found_from a s es id ≡ Some f → Stands a s es id f
-stands_from a s [] id f e = absurd (let z : ◌≡◌ {A = ℕ} 0 1 = cc in omega arith)
+stands_from a s [] id f e = absurd cc
 stands_from a s (x ∷ xs) id f e = go (stands_from (a + 1) (s + x.size) xs id f) (eqb x.id id) refl e
   where
     go : (found_from (a + 1) (s + x.size) xs id ≡ Some f → Stands (a + 1) (s + x.size) xs id f) → (b : Bool) → eqb x.id id ≡ b → cond b (Some (found a s x.size)) (found_from (a + 1) (s + x.size) xs id) ≡ Some f → Stands a s (x ∷ xs) id f
@@ -56,7 +42,7 @@ stands_from a s (x ∷ xs) id f e = go (stands_from (a + 1) (s + x.size) xs id f
           k = suc h.k;
           at = omega (arith, h.at);
           inside = omega (arith, h.inside);
-          start = omega (arith, h.start);
+          start = omega (arith, h.start, sum_by-cons size_of x (take h.k xs));
           size = h.size;
           here = h.here;
           before = cond-false _ _ _ same ∙ h.before;
@@ -71,9 +57,13 @@ module _ (es : List Entry) (id : ℕ) (f : Found) (h : Stands 0 0 es id f) where
   at_inside = omega (arith, h.at, h.inside)
 
   pub size_within : f.start + f.size ≤ sizes es
-  size_within = omega (arith, h.start, h.size (entry 0 0), sizes_split es h.k (entry 0 0) h.inside)
+  size_within = omega (arith, h.start, h.size (entry 0 0), sum_by_more_le size_of es h.k (entry 0 0) h.inside)
 
-  pub size_out : sizes (without f.at es) + f.size ≡ sizes es
+  pub size_out : sizes (remove es f.at) + f.size ≡ sizes es
   size_out =
       let e : f.at ≡ h.k = omega (arith, h.at) in
-      ap (λ n. sizes (without n es) + f.size) e ∙ ap (λ n. sizes (without h.k es) + n) (h.size (entry 0 0)) ∙ sizes_without es h.k (entry 0 0) h.inside
+      ap (λ n. sizes (remove es n) + f.size) e ∙ ap (λ n. sizes (remove es h.k) + n) (h.size (entry 0 0)) ∙ sum_by-remove size_of es h.k (entry 0 0) h.inside
+
+-- an entry that was found leaves the table
+pub sizes_out : (es : List Entry) (id : ℕ) (f : Found) → found_in es id ≡ Some f → sizes (remove es f.at) + f.size ≡ sizes es
+sizes_out es id f e = size_out es id f (stands es id f e)

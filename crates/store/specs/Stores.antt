@@ -1,6 +1,5 @@
 -- What a table of overlays holds, and what its operations make of it and of the memory.
 --   Store        the entries of the stored overlays, and how many bytes of the overlay that is being sent have come
---   store_of      what the code's table holds
 --   kept         how many bytes of the memory are in use: those of the stored overlays, and then those that have come
 --   Answer       a store as it is left, and how the call ended
 --   Held         a store and the memory as they are left, and how the call ended
@@ -12,13 +11,13 @@
 --   deleting     the overlay with an ID, or all with ID 0, leave the table; the bytes behind it move down, and what
 --                lies behind the bytes that are then kept stays
 use Rattle.std.specs.Prelude.{ℕ, ◌+◌, Bool, true, cond, List, [], ◌∷◌, ◌++◌, length, take, drop, is_some, Some, None, Ok, Err, Option, Result, ◌==◌, nat_le, nat_lt}
+use Rattle.std.specs.List.{remove}
 use Rattle.queue.specs.Queues.{span_in, span_out}
 use Rattle.refusal.specs.declared.Refusal.{Refusal}
 use Rattle.refusal.specs.declared.Refusal.TheVariants.{IdOutOfRange, AlreadyStored, NotStored, StoreFull}
 use Rattle.store.specs.declared.entry.Entry.{Entry}
 use Rattle.store.specs.declared.entry.Found.{Found}
-use Rattle.store.specs.declared.overlays.Overlays.{Overlays}
-use Rattle.store.specs.Entries.{entry, sizes, found_in, without}
+use Rattle.store.specs.Entries.{entry, sizes, found_in}
 
 pub record Store : Type 0 where
   pub entries : List Entry
@@ -29,9 +28,6 @@ store es n = record { entries = es; begun = n }
 
 abbrev pub empty_store : Store
 empty_store = store [] 0
-
-abbrev pub store_of : Overlays → Store
-store_of o = store (take o.count o.entries) o.begun
 
 abbrev pub kept : Store → ℕ
 kept s = sizes s.entries + s.begun
@@ -89,7 +85,7 @@ closed_up m n f = cond (span_in m n f.start f.size) (span_out m n f.start f.size
 
 abbrev pub deleting_at : Option Found → Store → List ℕ → Held
 deleting_at None s m = held s m (Err NotStored)
-deleting_at (Some f) s m = held (store (without f.at s.entries) s.begun) (closed_up m (kept s) f) (Ok tt)
+deleting_at (Some f) s m = held (store (remove s.entries f.at) s.begun) (closed_up m (kept s) f) (Ok tt)
 
 abbrev pub deleting : ℕ → Store → List ℕ → Held
 deleting id s m =

@@ -2,7 +2,7 @@
 ghost use Rattle.std.specs.Prelude.{◌≡◌, ◌^◌, ◌<◌};
 ghost use Rattle.store.specs.Entries.{sizes, found_in};
 
-#[derive(Clone, Copy)]
+#[derive(Clone, Copy, Debug, PartialEq, Eq)]
 pub struct Entry {
     pub id: u16,
     // How many bytes it has.
@@ -10,7 +10,7 @@ pub struct Entry {
 }
 
 // Where a search found an overlay.
-#[derive(Clone, Copy)]
+#[derive(Clone, Copy, Debug, PartialEq, Eq)]
 pub struct Found {
     // Its place in the table.
     pub at: usize,
@@ -24,16 +24,11 @@ pub(crate) fn find_in(entries: &[Entry], id: u16) -> Option<Found>
     requires { sizes entries.now < 2 ^ 64 }
     ensures { result ≡ found_in entries.now id }
 {
-    let mut start = 0;
-    for (at, entry) in entries.iter().enumerate() {
-        if entry.id == id {
-            return Some(Found {
-                at,
-                start,
-                size: entry.size,
-            });
-        }
-        start += entry.size;
-    }
-    None
+    let at = entries.iter().position(|entry| entry.id == id)?;
+    let start = entries[..at].iter().map(|entry| entry.size).sum();
+    Some(Found {
+        at,
+        start,
+        size: entries[at].size,
+    })
 }

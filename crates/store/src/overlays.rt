@@ -1,9 +1,9 @@
 // The stored overlays. Their bytes lie in the caller's memory from its start on, one overlay behind the other,
 // and behind them the bytes of the overlay that is being sent. So where an overlay begins is a sum of sizes.
-ghost use Rattle.std.specs.Prelude.{◌≡◌, ◌+◌, ◌^◌, ◌<◌, ◌≤◌, length, take};
-ghost use Rattle.store.specs.Entries.{sizes};
-
+// Clauses see the entries and how many bytes of the overlay that is being sent have come.
 use crate::entry::Entry;
+use queue::Queue;
+use std::marker::Model;
 
 mod sending;
 mod stored;
@@ -12,16 +12,26 @@ mod told;
 // The IDs of overlays run from 1 to this.
 pub const LAST_ID: u16 = 127;
 
+// How many overlays can be stored.
+const MOST: usize = 64;
+
 #[derive(Drop)]
 pub struct Overlays {
-    entries: [Entry; 64],
-    count: usize,
+    entries: Queue<Entry, MOST>,
     // How many bytes the stored overlays have.
     bytes: usize,
     // How many bytes of the overlay that is being sent have come.
     begun: usize,
-    ghost places: { length entries ≡ 64 },
-    ghost few: { count ≤ 64 },
-    ghost summed: { bytes ≡ sizes (take count entries) },
-    ghost fits: { bytes + begun < 2 ^ 64 },
+}
+
+impl Model for Overlays {
+    ghost use Rattle.std.specs.Prelude.{◌≡◌, ◌+◌, ◌^◌, ◌<◌};
+    ghost use Rattle.store.specs.Entries.{sizes};
+    ghost use Rattle.store.specs.Stores.{Store, store};
+
+    ghost Value = { Store };
+
+    ghost view = { λ o. store o.entries o.begun };
+
+    ghost invariant = { λ o. (o.bytes ≡ sizes o.entries) × (o.bytes + o.begun < 2 ^ 64) };
 }

@@ -1,6 +1,6 @@
 // The overlay that is being sent.
 ghost use Rattle.std.specs.Prelude.{◌≡◌, ℕ, ◌+◌, ◌≤◌, List, length, is_ok, if◌then◌else◌};
-ghost use Rattle.store.specs.Stores.{store_of, answer, held, beginning, written, storing, dropping};
+ghost use Rattle.store.specs.Stores.{answer, held, beginning, written, storing, dropping};
 ghost use Rattle.store.specs.Contents.{contents};
 ghost use Rattle.store.specs.Laws.{emptied, appended, BeginGrounds, StoreGrounds};
 
@@ -18,17 +18,17 @@ fn put(memory: &mut [u8], at: usize, bytes: &[u8])
 impl Overlays {
     // The overlay that is being sent is dropped.
     pub fn drop_open(&mut self)
-        ensures store { store_of self.new ≡ dropping (store_of self.old) }
-        ensures contents { (m : List ℕ) → contents m (store_of self.new) ≡ emptied (contents m (store_of self.old)) }
+        ensures store { self.new ≡ dropping self.old }
+        ensures contents { (m : List ℕ) → contents m self.new ≡ emptied (contents m self.old) }
     {
         self.begun = 0;
     }
 
     // Why an overlay with this ID cannot begin.
     fn check_new(&self, id: u16) -> Result<(), Refusal>
-        ensures { result ≡ (beginning id (store_of self.now)).result }
+        ensures { result ≡ (beginning id self.now).result }
     {
-        if id == 0 || id > LAST_ID {
+        if !(1..=LAST_ID).contains(&id) {
             return Err(Refusal::IdOutOfRange);
         }
         if self.find(id).is_some() {
@@ -42,22 +42,20 @@ impl Overlays {
 
     // An overlay begins: none of its bytes have come.
     pub fn begin(&mut self, id: u16) -> Result<(), Refusal>
-        ensures store { answer (store_of self.new) result ≡ beginning id (store_of self.old) }
-        ensures contents { (m : List ℕ) → contents m (store_of self.new) ≡ (if is_ok result then emptied (contents m (store_of self.old)) else contents m (store_of self.old)) }
-        ensures grounds { BeginGrounds id (store_of self.old) result }
+        ensures store { answer self.new result ≡ beginning id self.old }
+        ensures contents { (m : List ℕ) → contents m self.new ≡ (if is_ok result then emptied (contents m self.old) else contents m self.old) }
+        ensures grounds { BeginGrounds id self.old result }
     {
-        let answer = self.check_new(id);
-        if answer.is_ok() {
-            self.drop_open();
-        }
-        answer
+        self.check_new(id)?;
+        self.drop_open();
+        Ok(())
     }
 
     // A command of the overlay that is being sent goes behind the bytes that are kept.
     pub fn store(&mut self, memory: &mut [u8], command: &[u8]) -> Result<(), Refusal>
-        ensures store { held (store_of self.new) memory.new result ≡ storing command.now (store_of self.old) memory.old }
-        ensures contents { contents memory.new (store_of self.new) ≡ (if is_ok result then appended command.now (contents memory.old (store_of self.old)) else contents memory.old (store_of self.old)) }
-        ensures grounds { StoreGrounds command.now (store_of self.old) memory.old result }
+        ensures store { held self.new memory.new result ≡ storing command.now self.old memory.old }
+        ensures contents { contents memory.new self.new ≡ (if is_ok result then appended command.now (contents memory.old self.old) else contents memory.old self.old) }
+        ensures grounds { StoreGrounds command.now self.old memory.old result }
     {
         let kept = self.kept();
         if kept > memory.len() || command.len() > memory.len() - kept {

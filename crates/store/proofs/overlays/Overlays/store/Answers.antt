@@ -1,14 +1,8 @@
-use Rattle.std.proofs.Common.{ap, ◌∙◌, arith}
-use Rattle.store.specs.Stores.{store_of, written}
-use Rattle.store.proofs.Grounds.{store_grounds}
-use Rattle.store.proofs.Changing.{stored}
-use Rattle.store.proofs.Calls.{stored_by}
+use Rattle.std.proofs.Common.{ap, arith}
+use Rattle.store.specs.Stores.{store, kept}
+use Rattle.store.proofs.Changing.{appends}
 use Rattle.store.proofs.overlays.Overlays.store.Goals as goal
 
-pub returns : goal.returns
-returns c =
-    let s = store_of c.args.self.now in
-    let bs = c.args.command.now in
-    let m = c.args.memory.now in
-    let done = stored_by bs s m _ (omega (arith, c.kept-kept.ensures)) (c.put.ensures ∙ ap (λ n. written m n bs) c.kept-kept.ensures) in
-    record { store = done; contents = stored bs s _ m _ _ done; grounds = store_grounds bs s _ m _ _ done }
+pub returns-clause-contents : goal.returns-clause-contents
+returns-clause-contents c =
+    rw (← c.self.view_is, c.put.ensures, c.kept-kept.ensures, ← c.self.view_is) (appends c.args.command.now (store c.self.inside.entries c.self.inside.begun) c.args.memory.now (omega (arith, ap kept c.self.view_is)))
