@@ -2,7 +2,7 @@
 ghost use Rattle.std.specs.Prelude.{◌≡◌, ◌*◌, ◌/◌, [], length, take, None, vec_len};
 ghost use Rattle.std.specs.List.{flat_map};
 ghost use Rattle.engine.specs.Engines.{paper, taken, fed, advance, advanced, purged};
-ghost use Rattle.engines.specs.Files.{path_of, bin_of, room_of, paper_of, filed};
+ghost use Rattle.engines.specs.Files.{path_of, bin_of, paper_of, filed};
 ghost use Rattle.engines.specs.Records.{bytes_of};
 ghost use Rattle.engines.specs.Soundness.{one_sound};
 
@@ -41,21 +41,13 @@ impl FileEngine {
 }
 
 impl Engine for FileEngine {
+    ghost K = { 1 };
+
     const K: usize = 1;
 
-    ghost path = { path_of };
-
-    ghost bin = { bin_of };
-
-    ghost room = { room_of };
-
-    ghost most = { 1 };
+    ghost paper = { paper_of };
 
     ghost sound = { λ e. one_sound e.path };
-
-    fn places() -> usize {
-        Self::K
-    }
 
     fn feed(&mut self, sheet: Sheet) -> bool
         ensures taken { result ≡ taken 1 (paper_of self.old) }

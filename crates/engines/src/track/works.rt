@@ -2,7 +2,7 @@
 ghost use Rattle.std.specs.Prelude.{◌≡◌, [], length, take, vec_len};
 ghost use Rattle.engine.specs.Engines.{paper, taken, fed, advance, advanced, purged};
 ghost use Rattle.engines.specs.Soundness.{eight_sound};
-ghost use Rattle.engines.specs.Tracks.{path_of, bin_of, room_of, paper_of, written};
+ghost use Rattle.engines.specs.Tracks.{path_of, bin_of, paper_of, written};
 
 use crate::track::TrackEngine;
 use engine::{Advanced, Engine, Sheet};
@@ -45,21 +45,13 @@ impl TrackEngine {
 }
 
 impl Engine for TrackEngine {
+    ghost K = { 8 };
+
     const K: usize = 8;
 
-    ghost path = { path_of };
-
-    ghost bin = { bin_of };
-
-    ghost room = { room_of };
-
-    ghost most = { 8 };
+    ghost paper = { paper_of };
 
     ghost sound = { λ e. eight_sound e.held e.path e.fits };
-
-    fn places() -> usize {
-        Self::K
-    }
 
     fn feed(&mut self, sheet: Sheet) -> bool
         ensures taken { result ≡ taken 8 (paper_of self.old) }
