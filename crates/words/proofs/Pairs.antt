@@ -1,9 +1,9 @@
 -- The bytes of pairs of hexadecimal digits, and what hex decodes.
-use Rattle.std.proofs.Common.{◌≡◌, ℕ, ◌+◌, ◌*◌, ◌%◌, List, [], ◌∷◌, length, Some, None, Option, Result, Ok, Err, refl, sym, ◌∙◌, ◌==◌, false, inl, inr, arith}
-use Rattle.std.specs.Result.{result_ok}
+use Rattle.std.proofs.Common.{◌≡◌, ℕ, ◌+◌, ◌*◌, ◌%◌, List, [], ◌∷◌, length, Some, None, Option, Result, Ok, Err, refl, sym, ap, ◌∙◌, ◌/◌, ◌==◌, false, inl, inr, arith}
+use Rattle.std.specs.Result.{result_ok, MatchResult, IsOk, IsErr}
 use Rattle.std.proofs.lemmas.Bool.Decides.{nat_tests}
 use Rattle.hex.specs.declared.error.FromHexError.{FromHexError}
-use Rattle.hex.specs.Hex.{hex_digit_value, digit_or_error, decode_pairs, decode_of, ◌>>=◌}
+use Rattle.hex.specs.Hex.{hex_digit_value, digit_or_error, decode_pairs, decode_of, decode_sized, ◌>>=◌}
 use Rattle.hex.proofs.HexLemmas.{decode_of-even, decode_of-odd}
 use Rattle.std.proofs.lemmas.Bool.{cases_lt}
 use Rattle.words.specs.Numerals.{and_then, nibble_of, hex_of, bytes_of}
@@ -38,9 +38,24 @@ odd [] h = absurd (omega (arith, h))
 odd (a ∷ []) h = refl
 odd (a ∷ b ∷ bs) h = nothing (nibble_of a) (nibble_of b) (hex_of bs) (odd bs (omega (arith, h)))
 
--- a word that is not empty writes the bytes that are decoded from it
-pub decoded : (w : List ℕ) → (length w == 0) ≡ false → bytes_of w ≡ result_ok (decode_of w)
-decoded w h = elim (cases_lt (length w % 2) 1) [
+sized : (w : List ℕ) → decode_sized w (length w / 2) ≡ decode_of w
+sized w = grind (arith, nat_tests)
+
+of_word : (w : List ℕ) → (length w == 0) ≡ false → bytes_of w ≡ result_ok (decode_of w)
+of_word w h = elim (cases_lt (length w % 2) 1) [
   | inl even ↦ rw (h, decode_of-even w (omega arith)) (sym (pairs 0 w))
   | inr one ↦ rw (h, decode_of-odd w (omega arith)) (odd w (omega arith))
 ]
+
+-- a word that is not empty writes the bytes that are decoded from it into half as many places
+pub decoded : (w : List ℕ) → (length w == 0) ≡ false → bytes_of w ≡ result_ok (decode_sized w (length w / 2))
+decoded w h = of_word w h ∙ ap result_ok (sym (sized w))
+
+-- decoding into places leaves there what it answers
+pub placed : (d : Result (List ℕ) FromHexError) (r : Result (Unit {0}) FromHexError) (out : List ℕ) → MatchResult d (λ bs. (r ≡ Ok tt) × (out ≡ bs)) (λ e. r ≡ Err e) → IsOk r → Some out ≡ result_ok d
+placed (Ok bs) r out m h = ap Some m.1
+placed (Err e) r out m h = let never = rw m at h in grind (arith)
+
+pub unplaced : (d : Result (List ℕ) FromHexError) (r : Result (Unit {0}) FromHexError) (out : List ℕ) → MatchResult d (λ bs. (r ≡ Ok tt) × (out ≡ bs)) (λ e. r ≡ Err e) → IsErr r → None ≡ result_ok d
+unplaced (Ok bs) r out m h = let never = rw m.0 at h in grind (arith)
+unplaced (Err e) r out m h = refl

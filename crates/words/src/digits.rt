@@ -3,7 +3,6 @@ ghost use Rattle.std.specs.Prelude.{◌≡◌, IfOk, vec_items};
 ghost use Rattle.std.specs.Option.{option_map};
 ghost use Rattle.words.specs.Numerals.{number_of, up_to, bytes_of};
 
-use hex::FromHexError;
 use std::alloc::{AllocError, Global};
 
 // The number of one to nine digits that a word writes.
@@ -34,11 +33,9 @@ pub fn hex(heap: Global, word: &[u8]) -> Result<Option<Vec<u8>>, AllocError>
     if word.is_empty() {
         return Ok(None);
     }
-    match hex::decode(heap, word) {
-        Ok(bytes) => Ok(Some(bytes)),
-        Err(e) => match e {
-            FromHexError::OutOfMemory => Err(AllocError),
-            _ => Ok(None),
-        },
+    let mut bytes = vec![in heap; 0u8; word.len() / 2]?;
+    match hex::decode_to_slice(word, bytes.as_mut_slice()) {
+        Ok(()) => Ok(Some(bytes)),
+        Err(_) => Ok(None),
     }
 }
