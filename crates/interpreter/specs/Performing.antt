@@ -4,9 +4,9 @@
 --   perform      each command in each state
 --   Obeys        a machine after a command, by the answer
 use Rattle.std.specs.Prelude.{◌≡◌, ℕ, cond, Some, None, Ok, Err, Option, Result, ◌==◌}
-use Rattle.command.specs.declared.refusal.Refusal.{Refusal}
-use Rattle.command.specs.declared.refusal.Refusal.TheVariants.{NotAccepted, NotAllowed}
-use Rattle.command.specs.declared.refusal.Refusal.TheVariants as refusals
+use Rattle.refusal.specs.declared.Refusal.{Refusal}
+use Rattle.refusal.specs.declared.Refusal.TheVariants.{NotAccepted, NotAllowed}
+use Rattle.refusal.specs.declared.Refusal.TheVariants as refusals
 use Rattle.command.specs.declared.state.Command.{Command}
 use Rattle.command.specs.declared.state.Command.TheVariants.{BeginPage, EndPage, LoadCopyControl, NoOperation, SetHomeState, DiscardBufferedData}
 use Rattle.command.specs.declared.state.State.{State}
