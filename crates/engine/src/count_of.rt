@@ -13,10 +13,7 @@ impl Tally {
     pub fn none() -> Tally
         ensures { counted result ≡ pair 0 0 }
     {
-        Tally {
-            pages: PageCount(0),
-            copies: CopyCount(0),
-        }
+        Tally::default()
     }
 
     // The tally with one more sheet; None where a count cannot grow.
@@ -27,13 +24,13 @@ impl Tally {
             let pages = self.pages.0.checked_add(1)?;
             Some(Tally {
                 pages: PageCount(pages),
-                copies: CopyCount(0),
+                copies: CopyCount::default(),
             })
         } else {
             let copies = self.copies.0.checked_add(1)?;
             Some(Tally {
-                pages: self.pages,
                 copies: CopyCount(copies),
+                ..self
             })
         }
     }

@@ -1,5 +1,5 @@
 // One copy of a page on paper.
-#[derive(Clone, Copy)]
+#[derive(Clone, Copy, Debug, Default, PartialEq, Eq)]
 pub struct Sheet {
     // The page's ID.
     pub page: u32,
@@ -10,7 +10,7 @@ pub struct Sheet {
 }
 
 // What an engine answers to an advance.
-#[derive(Clone, Copy)]
+#[derive(Clone, Copy, Debug, PartialEq, Eq)]
 pub enum Advanced {
     Stacked(Sheet),
     PathEmpty,

@@ -24,14 +24,14 @@ over_long xs bs at le =
     omega arith
 
 -- the bytes w are the bytes v with the record of s behind n others
-pub record Filed {Z : Type 0} (n : ℕ) (v w : Vec ℕ Z) (s : Sheet) : Type 0 where
+pub record Behind {Z : Type 0} (n : ℕ) (v w : Vec ℕ Z) (s : Sheet) : Type 0 where
   pub within : n + 1 ≤ vec_len w / 8
   pub told : take (8 * (n + 1)) (vec_items w) ≡ flat_map bytes_of (sheets_in (n + 1) (vec_items w))
-  pub bin : sheets_in (n + 1) (vec_items w) ≡ sheets_in n (vec_items v) ++ (s ∷ [])
+  pub sheets : sheets_in (n + 1) (vec_items w) ≡ sheets_in n (vec_items v) ++ (s ∷ [])
   pub bytes : w ≡ with_items_from v (8 * n) (bytes_of s)
 
 module _ {Z : Type 0} (n : ℕ) (v : Vec ℕ Z) (s : Sheet) (lt : n < vec_len v / 8) (told : take (8 * n) (vec_items v) ≡ flat_map bytes_of (sheets_in n (vec_items v))) where
-  behind : (w : Vec ℕ Z) → sheet_of (bytes_of s) ≡ s → w ≡ with_items_from v (8 * n) (bytes_of s) → Filed n v w s
+  behind : (w : Vec ℕ Z) → sheet_of (bytes_of s) ≡ s → w ≡ with_items_from v (8 * n) (bytes_of s) → Behind n v w s
   behind w back e =
       let xs = vec_items v in
       let len : vec_len v ≡ length xs = v.ok.0 in
@@ -44,10 +44,10 @@ module _ {Z : Type 0} (n : ℕ) (v : Vec ℕ Z) (s : Sheet) (lt : n < vec_len v 
       record {
         within = omega arith;
         told = ap (λ k. take k (vec_items w)) m ∙ front ∙ ap (λ l. l ++ bytes_of s) told ∙ flat_map_more bytes_of [] (sheets_in n xs) s ∙ ap (flat_map bytes_of) (sym more);
-        bin = more;
+        sheets = more;
         bytes = e;
       }
 
   -- the bytes xs were written over by ys at the place of the next record, and ys is the record of s
-  pub files : (k : ℕ) (xs ys packed : List ℕ) → k ≡ 8 → xs ≡ vec_items v → ys ≡ packed → packed ≡ bytes_of s → sheet_of packed ≡ s → Filed n v (with_items v (put_mid (8 * n) k xs ys)) s
+  pub files : (k : ℕ) (xs ys packed : List ℕ) → k ≡ 8 → xs ≡ vec_items v → ys ≡ packed → packed ≡ bytes_of s → sheet_of packed ≡ s → Behind n v (with_items v (put_mid (8 * n) k xs ys)) s
   files k xs ys packed e all copied is back = behind _ (ap sheet_of (sym is) ∙ back) (written_over v (8 * n) k xs ys (bytes_of s) e all (copied ∙ is))

@@ -1,4 +1,2 @@
-pub mod Steps
-pub mod Firsts
 pub mod Packing
 pub mod Filing

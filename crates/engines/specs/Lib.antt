@@ -1,4 +1,4 @@
-pub mod Soundness
-pub mod Tracks
 pub mod Records
+pub mod Tracks
 pub mod Files
+pub mod Paths

@@ -10,5 +10,5 @@ pub fn record(sheet: Sheet) -> [u8; 8]
     ensures back { sheet_of result ≡ sheet }
 {
     let [a, b, c, d] = sheet.page.to_be_bytes();
-    [a, b, c, d, 0, sheet.copy, sheet.last as u8, 0]
+    [a, b, c, d, 0, sheet.copy, u8::from(sheet.last), 0]
 }

@@ -7,7 +7,6 @@
 use Rattle.std.specs.Prelude.{ℕ, List}
 use Rattle.engine.specs.declared.sheet.Sheet.{Sheet}
 use Rattle.engine.specs.declared.engine.Engine.{Ghosts}
-use Rattle.engine.specs.Engines.{Paper, paper}
 use Rattle.spool.specs.declared.page.Turned.{Turned}
 use Rattle.spool.specs.declared.page.Counters.{Counters}
 use Rattle.spool.specs.Courses.{bin_of}
@@ -20,11 +19,8 @@ use Rattle.interpreter.specs.Takes.{Take, meaning}
 use Rattle.printer.specs.declared.printer.Printer.{Printer}
 use Rattle.printer.specs.Ends.{PrinterEnd, printer_end, station_of}
 
-abbrev pub paper_of : {E : Type 0} → Ghosts E → E → Paper
-paper_of m e = paper (m.path e) (m.bin e) (m.room e)
-
 abbrev pub end_of : {E : Type 0} → Ghosts E → Printer E → PrinterEnd
-end_of m p = printer_end (paper_of m p.engine) (machine_of p.interpreter p.spool)
+end_of m p = printer_end (m.paper p.engine) (machine_of p.interpreter p.spool)
 
 abbrev pub Run : Type 0
 Run = runs.Run Take
@@ -62,7 +58,7 @@ abbrev pub Receiving : List Page → Run → Type 0
 Receiving J run = runs.Receiving meaning J run
 
 abbrev pub Stands : {E : Type 0} → Ghosts E → Run → Printer E → Type 0
-Stands m run p = runs.Stands meaning m.most run (station_of (end_of m p))
+Stands m run p = runs.Stands meaning m.K run (station_of (end_of m p))
 
 abbrev pub Keeps : {E : Type 0} → Ghosts E → Printer E → Printer E → (Run → Run) → Type 0
 Keeps m p q call = (run : Run) → Stands m run p → Stands m (call run) q

@@ -1,8 +1,7 @@
--- Elements that are taken out together: what the loop writes, and what is left of the queue and behind it.
-use Rattle.std.proofs.Common.{◌≡◌, ℕ, ◌+◌, ◌-◌, ◌<◌, ◌≤◌, true, List, ◌++◌, length, get_or, take, drop, set, sym, ap, ◌∙◌, append_assoc, arith, length-append}
+-- Elements that are taken out together: what the copy writes, and what is left of the queue and behind it.
+use Rattle.std.proofs.Common.{◌≡◌, ℕ, ◌+◌, ◌-◌, ◌≤◌, true, List, ◌++◌, length, take, drop, sym, ap, ◌∙◌, append_assoc, arith, length-append}
 use lib.Seq.{paste}
-use Rattle.std.proofs.lemmas.List.Edits.{paste_more}
-use Rattle.std.proofs.lemmas.List.{take_at, drop_at, length-take-le, length-drop, get_or-drop, get_or-append_right}
+use Rattle.std.proofs.lemmas.List.{take_at, drop_at, length-take-le, length-drop}
 use Rattle.std.proofs.lemmas.Slice.{between_is}
 use Rattle.std.proofs.lemmas.Bool.{le-leb, cond-true}
 use Rattle.queue.specs.Queues.{span_in, span_out}
@@ -10,21 +9,7 @@ use Rattle.queue.specs.Queues.{span_in, span_out}
 pub span_is : {A : Type 0} (xs : List A) (n at w : ℕ) → at + w ≤ n → n ≤ length xs → span_in xs n at w ≡ true
 span_is xs n at w l le = cond-true _ _ _ (le-leb (at + w) n l) ∙ le-leb n (length xs) le
 
--- one turn moves one element
-pub moved : {A : Type 0} (xs ys : List A) (at w i : ℕ) (x : A) → at + w + i < length xs → ys ≡ paste xs at (drop (at + w) xs) i → x ≡ get_or ys (at + w + i) x → set ys (at + i) x ≡ paste xs at (drop (at + w) xs) (i + 1)
-moved xs ys at w i x l e is =
-    let a : length (take at xs) ≡ at = length-take-le at xs (omega arith) in
-    let d : length (drop (at + w) xs) ≡ length xs - (at + w) = length-drop (at + w) xs in
-    let b : length (take i (drop (at + w) xs)) ≡ i = length-take-le i (drop (at + w) xs) (omega arith) in
-    let f : length (take at xs ++ take i (drop (at + w) xs)) ≡ at + i = length-append (take at xs) (take i (drop (at + w) xs)) ∙ (omega arith) in
-    let k : at + i + (at + w + i - (at + i)) ≡ at + w + i = omega arith in
-    let here : x ≡ get_or (drop (at + w) xs) i x =
-    is ∙ ap (λ l. get_or l (at + w + i) x) e
-    ∙ get_or-append_right (take at xs ++ take i (drop (at + w) xs)) (drop (at + i) xs) (at + i) (at + w + i) x f (omega arith)
-    ∙ get_or-drop (at + i) xs (at + w + i - (at + i)) x ∙ ap (λ m. get_or xs m x) k ∙ sym (get_or-drop (at + w) xs i x) in
-    ap (λ l. set l (at + i) x) e ∙ ap (set (paste xs at (drop (at + w) xs) i) (at + i)) here ∙ paste_more xs at (drop (at + w) xs) i x (omega arith) (omega arith)
-
--- all turns
+-- the copy of all that lie behind them
 pub moved_all : {A : Type 0} (xs : List A) (n at w i : ℕ) → at + w ≤ n → i ≡ n - at - w → paste xs at (drop (at + w) xs) i ≡ span_out xs n at w
 moved_all xs n at w i l e =
     let k : i ≡ n - (at + w) = omega arith in

@@ -1,9 +1,14 @@
 // A queue is the first `count` places of a slice; the places behind them are free.
 // A count beyond the slice is refused, so no call asks anything of its caller.
+// `Queue` holds places of its own with their count, where the places need not be the caller's.
 #![tactic(auto)]
 
 ghost use Rattle.std.specs.Prelude.{◌≡◌, ◌+◌, ◌<◌, ◌≤◌, length, if◌then◌else◌, nat_lt, slice_set};
 ghost use Rattle.queue.specs.Queues.{closed, gap_in, first_of, span_in, span_out};
+
+mod fixed;
+
+pub use fixed::Queue;
 
 // Adds an element at the end; false where there is no place for it.
 pub fn add<T: Drop>(slots: &mut [T], count: usize, element: T) -> bool
@@ -53,8 +58,6 @@ pub fn close_span<T: Copy>(slots: &mut [T], count: usize, at: usize, width: usiz
     if at > count || width > count - at || count > slots.len() {
         return false;
     }
-    for i in 0..count - at - width {
-        slots[at + i] = slots[at + width + i];
-    }
+    slots.copy_within(at + width..count, at);
     true
 }

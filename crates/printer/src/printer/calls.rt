@@ -2,7 +2,7 @@
 ghost use Rattle.std.specs.Prelude.{◌≡◌, ℕ, ◌+◌, ◌≤◌, List, ◌++◌, length};
 ghost use Rattle.interpreter.specs.Takes.{take_seen};
 ghost use Rattle.printer.specs.Ends.{areas, took_as, took, turned, turned_times, turn_told, jammed, view_of, made as made_end};
-ghost use Rattle.printer.specs.Printers.{end_of, paper_of, Run, made, bin_before, stacked_by, path_after, owed_by, received_by, flow_by, Receiving, Stands, Keeps, after_take, after_turn, after_jam, after_counters, after_owed, Turns};
+ghost use Rattle.printer.specs.Printers.{end_of, Run, made, bin_before, stacked_by, path_after, owed_by, received_by, flow_by, Receiving, Stands, Keeps, after_take, after_turn, after_jam, after_counters, after_owed, Turns};
 ghost use Rattle.spool.specs.Flows.{turn, turned as turned_by, owed};
 ghost use Rattle.spool.specs.Jobs.{Page, Proper, job_sheets};
 ghost use Rattle.spool.specs.Spools.{numbers_of, told};
@@ -17,8 +17,8 @@ use text::Mark;
 impl<E: Engine> Printer<E> {
     // A printer end over an engine, whatever that holds: its path is purged.
     pub fn new(engine: E) -> Printer<E>
-        ensures end { end_of E.Engine result ≡ made_end (E.Engine.bin engine) (E.Engine.room engine) }
-        ensures law { Stands E.Engine (made (E.Engine.bin engine)) result }
+        ensures end { end_of E.Engine result ≡ made_end (E.paper engine).bin (E.paper engine).room }
+        ensures law { Stands E.Engine (made (E.paper engine).bin) result }
     {
         let mut engine = engine;
         let _ = engine.purge();
@@ -45,20 +45,20 @@ impl<E: Engine> Printer<E> {
 
     // Advances the engine once, and then feeds the next copy where one waits and the path has a place.
     pub fn turn(&mut self) -> Turned
-        ensures told { result ≡ turn_told E.Engine.most (end_of E.Engine self.old) }
-        ensures end { end_of E.Engine self.new ≡ turned E.Engine.most (end_of E.Engine self.old) }
-        ensures answer { (run : Run) → Stands E.Engine run self.old → result ≡ turned_by E.Engine.most (flow_by run (E.Engine.room self.old.engine)) }
-        ensures flow { (run : Run) → Stands E.Engine run self.old → flow_of (view_of (end_of E.Engine self.new)) ≡ turn E.Engine.most (flow_of (view_of (end_of E.Engine self.old))) }
-        ensures law { Keeps E.Engine self.old self.new (after_turn result (E.Engine.path self.new.engine)) }
+        ensures told { result ≡ turn_told E.K (end_of E.Engine self.old) }
+        ensures end { end_of E.Engine self.new ≡ turned E.K (end_of E.Engine self.old) }
+        ensures answer { (run : Run) → Stands E.Engine run self.old → result ≡ turned_by E.K (flow_by run (E.paper self.old.engine).room) }
+        ensures flow { (run : Run) → Stands E.Engine run self.old → flow_of (view_of (end_of E.Engine self.new)) ≡ turn E.K (flow_of (view_of (end_of E.Engine self.old))) }
+        ensures law { Keeps E.Engine self.old self.new (after_turn result (E.paper self.new.engine).path) }
     {
         self.turn_once()
     }
 
     // So many turns in a row: one more than the sheets owed delivers these, where the bin can hold them.
     pub fn turns(&mut self, n: usize)
-        ensures end { end_of E.Engine self.new ≡ turned_times n E.Engine.most (end_of E.Engine self.old) }
+        ensures end { end_of E.Engine self.new ≡ turned_times n E.K (end_of E.Engine self.old) }
         ensures law { (run : Run) → Stands E.Engine run self.old → ((after : Run) × (Turns n run after × Stands E.Engine after self.new)) }
-        ensures delivers { (run : Run) → Stands E.Engine run self.old → n ≡ length (owed_by run) + 1 → length (owed_by run) ≤ E.Engine.room self.old.engine → E.Engine.bin self.new.engine ≡ E.Engine.bin self.old.engine ++ owed_by run }
+        ensures delivers { (run : Run) → Stands E.Engine run self.old → n ≡ length (owed_by run) + 1 → length (owed_by run) ≤ (E.paper self.old.engine).room → (E.paper self.new.engine).bin ≡ (E.paper self.old.engine).bin ++ owed_by run }
     {
         for _ in 0..n {
             let _ = self.turn();
@@ -94,8 +94,8 @@ impl<E: Engine> Printer<E> {
     // Ends the printer end and hands the engine back as it is.
     pub fn into_engine(self) -> E
         ensures engine { result ≡ self.engine }
-        ensures law { (run : Run) → Stands E.Engine run self → (E.Engine.bin result ≡ bin_before run ++ stacked_by run) × (E.Engine.path result ≡ path_after run) }
-        ensures job { (run : Run) → Stands E.Engine run self → (J : List Page) → Proper J → Receiving J run → received_by run ≡ length J → E.Engine.bin result ++ owed_by run ≡ bin_before run ++ job_sheets J }
+        ensures law { (run : Run) → Stands E.Engine run self → ((E.paper result).bin ≡ bin_before run ++ stacked_by run) × ((E.paper result).path ≡ path_after run) }
+        ensures job { (run : Run) → Stands E.Engine run self → (J : List Page) → Proper J → Receiving J run → received_by run ≡ length J → (E.paper result).bin ++ owed_by run ≡ bin_before run ++ job_sheets J }
     {
         self.release()
     }

@@ -26,8 +26,8 @@ impl<E: Engine> Printer<E> {
     // One advance, then one feed.
     pub(super) fn turn_once(&mut self) -> Turned
         ensures advanced { result.advanced ≡ advanced (end_of E.Engine self.old).paper }
-        ensures fed { result.fed ≡ feeds_v E.Engine.most (advance_v (view_of (end_of E.Engine self.old))) }
-        ensures view { view_of (end_of E.Engine self.new) ≡ turn_v E.Engine.most (view_of (end_of E.Engine self.old)) }
+        ensures fed { result.fed ≡ feeds_v E.K (advance_v (view_of (end_of E.Engine self.old))) }
+        ensures view { view_of (end_of E.Engine self.new) ≡ turn_v E.K (view_of (end_of E.Engine self.old)) }
         ensures interpreter { self.new.interpreter ≡ self.old.interpreter }
     {
         let advanced = advance_once(&mut self.engine, &mut self.spool);
@@ -45,7 +45,7 @@ impl<E: Engine> Printer<E> {
 
     // The sheets in the path, and the waiting copies.
     pub(super) fn count_owed(&self) -> (usize, usize)
-        ensures path { result.0 ≡ length (E.Engine.path self.now.engine) }
+        ensures path { result.0 ≡ length (E.paper self.now.engine).path }
         ensures waiting { result.1 ≡ unfed_in (end_of E.Engine self.now).machine.spool.waiting }
         ensures few { result.1 ≤ 4080 }
     {

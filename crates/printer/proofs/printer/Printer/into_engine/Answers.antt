@@ -12,6 +12,6 @@ returns g c =
     let e = c.release.ensures in
     record {
       engine = e;
-      law = λ run s. (ap m.bin e ∙ s.holds.bin, ap m.path e ∙ s.holds.path);
-      job = λ run s J pr f all. ap (λ x. m.bin x ++ owed_by run) e ∙ job_done meaning m.most run (station_of (end_of m p)) s J pr f all;
+      law = λ run s. (ap (λ x. (m.paper x).bin) e ∙ s.holds.bin, ap (λ x. (m.paper x).path) e ∙ s.holds.path);
+      job = λ run s J pr f all. ap (λ x. (m.paper x).bin ++ owed_by run) e ∙ job_done meaning m.K run (station_of (end_of m p)) s J pr f all;
     }

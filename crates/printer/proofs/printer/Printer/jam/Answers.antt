@@ -13,5 +13,5 @@ returns g c =
     let now = c.lose_paper.ensures in
     record {
       end = now;
-      law = λ run s. subst (λ (e : PrinterEnd). Stands meaning m.most (after_jam meaning run) (station_of e)) (sym now) (jam_law meaning m.most (m.sound p.engine).some run (station_of (end_of m p)) s);
+      law = λ run s. subst (λ (e : PrinterEnd). Stands meaning m.K (after_jam meaning run) (station_of e)) (sym now) (jam_law meaning m.K (m.sound p.engine).some run (station_of (end_of m p)) s);
     }

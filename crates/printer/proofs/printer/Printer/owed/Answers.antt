@@ -12,7 +12,7 @@ pub overflow_add-result : goal.overflow_add-result
 overflow_add-result g c =
     let m = g.E.Engine in
     let sound = m.sound c.args.self.now.engine in
-    let few : m.most ≤ 8 = sound.few in
+    let few : m.K ≤ 8 = sound.few in
     let short = sound.short in
     let small : c.count_owed-path.result.0 + c.count_owed-path.result.1 < 2 ^ 64 = omega (arith, c.count_owed-path.ensures.path, c.count_owed-path.ensures.few) in
     search rules
@@ -22,7 +22,7 @@ returns g c =
     let m = g.E.Engine in
     let p = c.args.self.now in
     let sound = m.sound p.engine in
-    let few : m.most ≤ 8 = sound.few in
+    let few : m.K ≤ 8 = sound.few in
     let short = sound.short in
     let v = view_of (end_of m p) in
     let q = c.count_owed-path.ensures in
@@ -30,5 +30,5 @@ returns g c =
     record {
       owed = is;
       most = omega (arith, q.path, q.few);
-      law = λ run s. owed_law meaning m.most run (station_of (end_of m p)) s _ is;
+      law = λ run s. owed_law meaning m.K run (station_of (end_of m p)) s _ is;
     }

@@ -4,7 +4,7 @@ use Rattle.interpreter.specs.Taking.{taking, take_of}
 use Rattle.interpreter.specs.Takes.{meaning, take_seen}
 use Rattle.interpreter.proofs.Effects.{Seen, take_seen_law}
 use Rattle.printer.specs.Ends.{printer_end, areas, took_as, took_by, station_of}
-use Rattle.printer.specs.Printers.{end_of, paper_of}
+use Rattle.printer.specs.Printers.{end_of}
 use Rattle.spool.specs.Runs.{took, Stands, after_still}
 use Rattle.spool.proofs.Calls.{take_law}
 use Rattle.spool.proofs.Waiting.{whole_spool}
@@ -24,6 +24,6 @@ returns g c =
     let seen : Seen bs before (taking after area c.carry_out.result) = subst (Seen bs before) (sym e) (take_seen_law bs before c.args.reply.now) in
     let given = areas c.args.reply.now c.args.marks.now c.args.memory.now in
     record {
-      took = ap (λ x. took_as (printer_end (paper_of m x) after) (areas area c.args.marks.now c.args.memory.now) c.carry_out.result) same ∙ ap (λ t. took_by t (end_of m p) given) e;
-      law = λ run s. subst (λ x. Stands meaning m.most (after_still meaning run (took (take_seen bs c.carry_out.result area))) (station_of (printer_end (paper_of m x) after))) (sym same) (take_law meaning m.most (m.sound p.engine).some run (station_of (end_of m p)) (whole_spool p.spool) s (take_seen bs c.carry_out.result area) (receiver_of after) seen.effect q.interpreter.copies.some seen.counts);
+      took = ap (λ x. took_as (printer_end (m.paper x) after) (areas area c.args.marks.now c.args.memory.now) c.carry_out.result) same ∙ ap (λ t. took_by t (end_of m p) given) e;
+      law = λ run s. subst (λ x. Stands meaning m.K (after_still meaning run (took (take_seen bs c.carry_out.result area))) (station_of (printer_end (m.paper x) after))) (sym same) (take_law meaning m.K (m.sound p.engine).some run (station_of (end_of m p)) (whole_spool p.spool) s (take_seen bs c.carry_out.result area) (receiver_of after) seen.effect q.interpreter.copies.some seen.counts);
     }

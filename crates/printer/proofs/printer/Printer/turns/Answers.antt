@@ -12,7 +12,7 @@ loop-init g c =
     let m = g.E.Engine in
     let p = c.args.self.now in
     let z : c.args.n - 0 ≡ c.args.n = omega arith in
-    (ap (λ k. turned_times k m.most (end_of m p)) z, λ run s. (run, (refl, (s, ap (λ k. turns k m.most (flow_of (view_of (end_of m p)))) z))))
+    (ap (λ k. turned_times k m.K (end_of m p)) z, λ run s. (run, (refl, (s, ap (λ k. turns k m.K (flow_of (view_of (end_of m p)))) z))))
 
 pub loop-preserved : goal.loop-preserved
 loop-preserved g c =
@@ -22,15 +22,15 @@ loop-preserved g c =
     let i = c.loop.counter in
     let t = c.turn.ensures in
     let e : n - i ≡ suc (n - (i + 1)) = omega arith in (
-      ap (turned_times (n - (i + 1)) m.most) t.end ∙ ap (λ k. turned_times k m.most (end_of m q)) (sym e) ∙ c.loop.invariant.0,
+      ap (turned_times (n - (i + 1)) m.K) t.end ∙ ap (λ k. turned_times k m.K (end_of m q)) (sym e) ∙ c.loop.invariant.0,
       λ run s.
           let h = c.loop.invariant.1 run s in
           let st : Stands m h.0 q = h.1.1.0 in
           let f = t.flow h.0 st in
           let r = c.turn.result in
-          let p = m.path c.turn.new.self.engine in
+          let p = (m.paper c.turn.new.self.engine).path in
           let next = after_turn r p h.0 in
-          (next, (subst (λ k. Turns k run next) (sym (add-one i)) (h.0, (h.1.0, (r, (p, refl)))), (t.law h.0 st, ap (turns (n - (i + 1)) m.most) f ∙ ap (λ k. turns k m.most (flow_of (view_of (end_of m q)))) (sym e) ∙ h.1.1.1))),
+          (next, (subst (λ k. Turns k run next) (sym (add-one i)) (h.0, (h.1.0, (r, (p, refl)))), (t.law h.0 st, ap (turns (n - (i + 1)) m.K) f ∙ ap (λ k. turns k m.K (flow_of (view_of (end_of m q)))) (sym e) ∙ h.1.1.1))),
     )
 
 pub returns : goal.returns
@@ -42,11 +42,11 @@ returns g c =
     let full : c.loop.counter ≡ n = omega arith in
     let z : 0 ≡ n - c.loop.counter = omega arith in
     record {
-      end = ap (λ k. turned_times k m.most (end_of m q)) z ∙ c.loop.invariant.0;
+      end = ap (λ k. turned_times k m.K (end_of m q)) z ∙ c.loop.invariant.0;
       law = λ run s. let h = c.loop.invariant.1 run s in (h.0, (subst (λ k. Turns k run h.0) full h.1.0, h.1.1.0));
       delivers = λ run s en fits.
           let h = c.loop.invariant.1 run s in
-          let o = owed_so meaning m.most run (station_of (end_of m p)) s in
+          let o = owed_so meaning m.K run (station_of (end_of m p)) s in
           let k : n ≡ owed (flow_of (view_of (end_of m p))) + 1 = omega arith in
-          ap (λ (f : Flow). f.paper.bin) (ap (λ k. turns k m.most (flow_of (view_of (end_of m q)))) z ∙ h.1.1.1) ∙ ap (λ k. (turns k m.most (flow_of (view_of (end_of m p)))).paper.bin) k ∙ s.holds.delivers (omega arith);
+          ap (λ (f : Flow). f.paper.bin) (ap (λ k. turns k m.K (flow_of (view_of (end_of m q)))) z ∙ h.1.1.1) ∙ ap (λ k. (turns k m.K (flow_of (view_of (end_of m p)))).paper.bin) k ∙ s.holds.delivers (omega arith);
     }

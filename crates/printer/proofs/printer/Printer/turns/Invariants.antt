@@ -9,5 +9,5 @@ use Rattle.printer.proofs.printer.Printer.turns.Given as goal
 abbrev pub invariant-loop : goal.invariant-loop
 invariant-loop g l =
     let m = g.E.Engine in
-    (turned_times (l.n - l.counter) m.most (end_of m l.self) ≡ turned_times l.n m.most (end_of m l.initial.self)) × (
-    (run : Run) → Stands m run l.initial.self → (after : Run) × (Turns l.counter run after × (Stands m after l.self × (turns (l.n - l.counter) m.most (flow_of (view_of (end_of m l.self))) ≡ turns l.n m.most (flow_of (view_of (end_of m l.initial.self)))))))
+    (turned_times (l.n - l.counter) m.K (end_of m l.self) ≡ turned_times l.n m.K (end_of m l.initial.self)) × (
+    (run : Run) → Stands m run l.initial.self → (after : Run) × (Turns l.counter run after × (Stands m after l.self × (turns (l.n - l.counter) m.K (flow_of (view_of (end_of m l.self))) ≡ turns l.n m.K (flow_of (view_of (end_of m l.initial.self)))))))
