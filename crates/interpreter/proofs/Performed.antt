@@ -20,10 +20,11 @@ use Rattle.command.proofs.Decoded.{decoded_is}
 use Rattle.command.proofs.Ends.{decoded_end}
 use Rattle.spool.specs.declared.page.NotReceived.{NotReceived}
 use Rattle.spool.specs.declared.page.NotReceived.TheVariants.{SixteenWait, PagesSpent, CopiesSpent}
+use Rattle.spool.specs.Refusing.{refusal_for}
 use Rattle.spool.specs.Spooled.{full, refusal_of}
 use Rattle.spool.specs.Receivers.{Receiver, receiver, done_by}
 use Rattle.interpreter.specs.Machines.{Machine, machine, open_page, receiver_of}
-use Rattle.interpreter.specs.Performing.{end_page, load_copies, perform_in, refusal_for}
+use Rattle.interpreter.specs.Performing.{end_page, load_copies, perform_in}
 use Rattle.interpreter.specs.Taking.{performed, interpreted, blocked_in, blocked}
 use Rattle.interpreter.specs.Takes.{effect_in, effect_read}
 

@@ -10,7 +10,6 @@ use Rattle.refusal.specs.declared.Fault.{Fault}
 use Rattle.command.specs.declared.state.State.{State}
 use Rattle.command.specs.declared.state.State.TheVariants.{Home, Page}
 use Rattle.spool.specs.Spooled.{Spooled, empty}
-use Rattle.spool.specs.Spools.{spool_of}
 use Rattle.spool.specs.Receivers.{Receiver, receiver}
 use Rattle.interpreter.specs.declared.interpreter.Interpreter.{Interpreter}
 
@@ -25,7 +24,7 @@ abbrev pub machine : Spooled → State → ℕ → Option Fault → ℕ → Mach
 machine b s n p k = record { spool = b; state = s; copies = n; pending = p; marks = k }
 
 abbrev pub machine_of : Interpreter → Machine
-machine_of i = machine (spool_of i.spool) i.state i.copies.count i.pending i.marks
+machine_of i = machine i.spool i.state i.copies i.pending i.marks
 
 abbrev pub fresh : Machine
 fresh = machine empty Home 1 None 0

@@ -1,4 +1,6 @@
 // The spool, what is open, the copies in force, the negative reply that waits to be fetched, and the count of marks.
+ghost use Rattle.std.specs.Prelude.{◌<◌};
+
 use command::{Fault, State};
 use spool::{Copies, Spool};
 
@@ -14,4 +16,5 @@ pub struct Interpreter {
     copies: Copies,
     pending: Option<Fault>,
     marks: usize,
+    ghost some: { 0 < copies },
 }

@@ -6,7 +6,8 @@ use Rattle.engine.specs.Sheets.{tally}
 use Rattle.spool.specs.declared.page.Counters.{Counters}
 use Rattle.spool.specs.declared.page.Turned.{Turned}
 use Rattle.spool.specs.Spooled.{Spooled, empty}
-use Rattle.spool.specs.Spools.{Numbers, numbers, numbers_of, told, Whole}
+use Rattle.spool.specs.Spools.{Numbers, numbers, numbers_of, told}
+use Rattle.spool.specs.Kept.{Whole}
 use Rattle.spool.specs.Flows.{owed}
 use Rattle.spool.specs.Views.{View, view, waits, flow_of, advance_v, feeds_v, turn_v}
 use Rattle.spool.specs.Courses.{Course, later, step, stacked_of, path_of, committed_of, received_of, Holds}

@@ -7,7 +7,7 @@ use Rattle.engine.specs.Sheets.{Pair, tally}
 use Rattle.spool.specs.declared.page.WaitingPage.{WaitingPage}
 use Rattle.spool.specs.Jobs.{Page, page as page_of, blank, numbered, page_sheets, job_sheets, begun, upto, so_far}
 use Rattle.spool.specs.Spooled.{Spooled, empty, waiting_page, waiting_sheets, receive, discard}
-use Rattle.spool.specs.Spools.{Whole}
+use Rattle.spool.specs.Kept.{Whole}
 use Rattle.spool.specs.Views.{View, view, waits, jam_v}
 use Rattle.spool.specs.Courses.{page, discarded, jammed, other, step, Course, start, later, stacked_of, path_of, committed_of, received_of, begun_of, waiting_of, Holds}
 use Rattle.spool.proofs.Jobs.{regained, job_more, page_whole}

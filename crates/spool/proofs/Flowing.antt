@@ -3,7 +3,7 @@ use Rattle.std.proofs.Common.{◌≡◌, ℕ, ◌≤◌, Bool, true, false, cond
 use Rattle.engine.specs.Engines.{put, taken, advance, advanced}
 use Rattle.spool.specs.declared.page.WaitingPage.{WaitingPage}
 use Rattle.spool.specs.Spooled.{waiting_sheets, next_sheet}
-use Rattle.spool.specs.Spools.{Unfed}
+use Rattle.spool.specs.Kept.{Unfed}
 use Rattle.spool.specs.Flows.{flow, feed, feeds, turn, turned}
 use Rattle.spool.specs.Views.{View, waits, flow_of, stacked_by, advance_v, feeds_v, turn_v}
 use Rattle.spool.proofs.Turning.{unrolled, Turning, advances, fed_view, feed_at, feeds_at, feed_known, feeds_known, advance_waiting}

@@ -1,6 +1,4 @@
-pub mod Waiting
-pub mod Tracked
-pub mod Feeding
+pub mod Keeping
 pub mod Jobs
 pub mod Delivery
 pub mod Turning

@@ -1,12 +1,13 @@
 -- What calls answer and leave, by the run alone.
 use Rattle.std.proofs.Common.{◌≡◌, ℕ, zero, suc, ◌+◌, ◌≤◌, Bool, List, [], ◌∷◌, ◌++◌, length, sym, refl, ap, ◌∙◌, append_assoc, arith, length-append}
+use Rattle.std.proofs.lemmas.List.Sums.{sum_by-cons}
 use Rattle.engine.specs.declared.sheet.Advanced.{Advanced}
 use Rattle.engine.specs.Engines.{paper, advanced}
 use Rattle.spool.specs.declared.page.WaitingPage.{WaitingPage}
 use Rattle.spool.specs.declared.page.Turned.{Turned}
 use Rattle.spool.specs.Jobs.{Page, Proper, numbered, job_sheets}
 use Rattle.spool.specs.Spooled.{waiting_sheets, unfed_in}
-use Rattle.spool.specs.Spools.{Whole}
+use Rattle.spool.specs.Kept.{Whole}
 use Rattle.spool.specs.Flows.{flow, turn, turned, owed}
 use Rattle.spool.specs.Views.{View, waits, flow_of, advance_v, feeds_v, turn_v}
 use Rattle.spool.specs.Courses.{bin_of, stacked_of, path_of, received_of, begun_of, waiting_of}
@@ -22,7 +23,7 @@ length_numbered id k (suc n) = ap suc (length_numbered id (k + 1) n)
 length_waiting : (c : ℕ) (ws : List WaitingPage) → length (waiting_sheets c ws) ≡ unfed_in ws
 length_waiting c [] = refl
 length_waiting c (w ∷ ws) =
-    length-append (numbered w.page (c + 1) w.unfed) (waiting_sheets 0 ws) ∙ ap (λ n. n + length (waiting_sheets 0 ws)) (length_numbered w.page (c + 1) w.unfed) ∙ ap (λ n. w.unfed + n) (length_waiting 0 ws)
+    length-append (numbered w.page (c + 1) w.unfed) (waiting_sheets 0 ws) ∙ ap (λ n. n + length (waiting_sheets 0 ws)) (length_numbered w.page (c + 1) w.unfed) ∙ ap (λ n. w.unfed + n) (length_waiting 0 ws) ∙ sym (sum_by-cons (λ (w : WaitingPage). w.unfed) w ws)
 
 -- so many sheets are owed
 pub owed_is : (v : View) → length v.paper.path + unfed_in v.spool.waiting ≡ owed (flow_of v)

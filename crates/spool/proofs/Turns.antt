@@ -9,7 +9,7 @@ use Rattle.engine.proofs.Tallying.{onward_append, after_pages, before_onward}
 use Rattle.spool.specs.declared.page.WaitingPage.{WaitingPage}
 use Rattle.spool.specs.Jobs.{blank, page_sheets, job_sheets, begun, so_far}
 use Rattle.spool.specs.Spooled.{next_sheet}
-use Rattle.spool.specs.Spools.{Unfed, Whole}
+use Rattle.spool.specs.Kept.{Unfed, Whole}
 use Rattle.spool.specs.Flows.{turns, owed}
 use Rattle.spool.specs.Views.{View, waits, flow_of, stacked_by, advance_v, feeds_v, turn_v}
 use Rattle.spool.specs.Courses.{Event, fed, other, step, Course, later, bin_of, stacked_of, path_of, received_after, received_of, begun_of, waiting_after, waiting_of, Holds}

@@ -1,6 +1,7 @@
-pub mod Waits
 pub mod Jobs
 pub mod Spooled
+pub mod Refusing
+pub mod Kept
 pub mod Spools
 pub mod Flows
 pub mod Views

@@ -10,6 +10,7 @@
 --   discard         the waiting pages are dropped
 --   jam             the waiting pages and the sheets in the path are dropped
 use Rattle.std.specs.Prelude.{◌≡◌, ℕ, ◌+◌, ◌-◌, Bool, cond, List, [], ◌∷◌, ◌++◌, length, Some, None, Ok, Err, Option, Result, ◌==◌, nat_lt}
+use Rattle.std.specs.List.{sum_by}
 use Rattle.engine.specs.declared.sheet.Sheet.{Sheet}
 use Rattle.engine.specs.Sheets.{Pair, pair, after}
 use Rattle.spool.specs.declared.page.WaitingPage.{WaitingPage}
@@ -37,8 +38,7 @@ waiting_sheets c (w ∷ ws) = numbered w.page (c + 1) w.unfed ++ waiting_sheets 
 
 -- how many copies the waiting pages are still to give
 abbrev pub unfed_in : List WaitingPage → ℕ
-unfed_in [] = 0
-unfed_in (w ∷ ws) = w.unfed + unfed_in ws
+unfed_in ws = sum_by (λ (w : WaitingPage). w.unfed) ws
 
 -- nothing waits and nothing is in the path
 abbrev pub idle : Pair → Spooled

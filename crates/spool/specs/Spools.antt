@@ -3,17 +3,16 @@
 --   Numbers    the five counters: received, the committed pair, the stacked pair
 --   told       the counters that the code hands out
 --   bytes_of    the five counters in two bytes each, the high byte first
---   Whole      what holds of every spool
-use Rattle.std.specs.Prelude.{◌≡◌, ℕ, ◌+◌, ◌/◌, ◌%◌, ◌<◌, ◌≤◌, List, [], ◌∷◌, length, take}
+use Rattle.std.specs.Prelude.{ℕ, ◌/◌, ◌%◌, List, [], ◌∷◌}
 use Rattle.engine.specs.Sheets.{Pair}
 use Rattle.engine.specs.Tallies.{counted}
-use Rattle.spool.specs.declared.page.WaitingPage.{WaitingPage}
 use Rattle.spool.specs.declared.page.Counters.{Counters}
 use Rattle.spool.specs.declared.spool.Spool.{Spool}
-use Rattle.spool.specs.Spooled.{Spooled, spooled}
+use Rattle.spool.specs.Spooled.{Spooled}
 
+-- the clauses see a spool as this
 abbrev pub spool_of : Spool → Spooled
-spool_of s = spooled (take s.waiting s.pages) s.received.0 (counted s.committed) (counted s.stacked) (take s.fed s.path)
+spool_of s = s
 
 pub record Numbers : Type 0 where
   pub received : ℕ
@@ -35,19 +34,3 @@ two n bs = n / 256 ∷ (n % 256 ∷ bs)
 
 abbrev pub bytes_of : Numbers → List ℕ
 bytes_of n = two n.received (two n.committed.pages (two n.committed.copies (two n.stacked.pages (two n.stacked.copies []))))
-
--- each waiting page has a copy to feed
-abbrev pub Unfed : List WaitingPage → Type 0
-Unfed [] = Unit {0}
-Unfed (w ∷ ws) = (0 < w.unfed) × Unfed ws
-
--- the copies that a spool makes of the page that is being fed, with c of them fed
-abbrev pub first_copies : ℕ → List WaitingPage → ℕ
-first_copies c [] = c
-first_copies c (w ∷ ws) = c + w.unfed
-
-pub record Whole (b : Spooled) : Type 0 where
-  pub paged : b.committed.pages + length b.waiting ≡ b.received
-  pub unfed : Unfed b.waiting
-  pub first : first_copies b.committed.copies b.waiting ≤ 255
-  pub few : b.committed.copies ≤ 254

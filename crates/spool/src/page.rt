@@ -1,15 +1,19 @@
 // Pages that wait to be fed, and what a spool tells of them.
+ghost use Rattle.std.specs.Prelude.{◌≡◌};
+ghost use Rattle.spool.specs.Refusing.{refusal_for};
+
 use engine::{Advanced, PageCount, Tally};
+use refusal::Refusal;
 
 // A page of which `unfed` copies are still to be fed.
-#[derive(Clone, Copy)]
+#[derive(Clone, Copy, Debug, PartialEq, Eq)]
 pub struct WaitingPage {
     pub page: u32,
     pub unfed: u8,
 }
 
 // Why a page is not received.
-#[derive(Clone, Copy)]
+#[derive(Clone, Copy, Debug, PartialEq, Eq)]
 pub enum NotReceived {
     // Sixteen pages wait already.
     SixteenWait,
@@ -19,8 +23,21 @@ pub enum NotReceived {
     CopiesSpent,
 }
 
+impl From<NotReceived> for Refusal {
+    ghost from_gives = { λ e refusal. refusal ≡ refusal_for e };
+
+    // What the host is told.
+    fn from(e: NotReceived) -> Refusal {
+        match e {
+            NotReceived::SixteenWait => Refusal::SixteenWait,
+            NotReceived::PagesSpent => Refusal::PagesSpent,
+            NotReceived::CopiesSpent => Refusal::CopiesSpent,
+        }
+    }
+}
+
 // What a printer end has counted.
-#[derive(Clone, Copy)]
+#[derive(Clone, Copy, Debug, PartialEq, Eq)]
 pub struct Counters {
     // The pages that came.
     pub received: PageCount,
@@ -31,7 +48,7 @@ pub struct Counters {
 }
 
 // What a turn answers: what its advance answered, and whether it fed a sheet.
-#[derive(Clone, Copy)]
+#[derive(Clone, Copy, Debug, PartialEq, Eq)]
 pub struct Turned {
     pub advanced: Advanced,
     pub fed: bool,

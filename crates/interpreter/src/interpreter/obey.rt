@@ -1,30 +1,19 @@
 // What a command does in the state that it meets.
 ghost use Rattle.std.specs.Prelude.{◌≡◌};
 ghost use Rattle.interpreter.specs.Machines.{machine_of};
-ghost use Rattle.interpreter.specs.Performing.{perform, end_page, load_copies, refusal_for, Leaves};
+ghost use Rattle.interpreter.specs.Performing.{perform, end_page, load_copies, Leaves};
 ghost use Rattle.interpreter.specs.Taking.{interpreted};
 ghost use Rattle.spool.specs.Spooled.{refusal_of};
-ghost use Rattle.spool.specs.Spools.{spool_of};
 
 use super::Interpreter;
 use command::{Command, Header, Refusal, State, decode};
-use spool::{Copies, NotReceived};
-
-fn refusal_for(e: NotReceived) -> Refusal
-    ensures { result ≡ refusal_for e }
-{
-    match e {
-        NotReceived::SixteenWait => Refusal::SixteenWait,
-        NotReceived::PagesSpent => Refusal::PagesSpent,
-        NotReceived::CopiesSpent => Refusal::CopiesSpent,
-    }
-}
+use spool::Copies;
 
 impl Interpreter {
     fn end_page(&mut self, page: u32) -> Result<(), Refusal>
-        ensures { Leaves (end_page (refusal_of self.old.copies.count (spool_of self.old.spool)) page (machine_of self.old)) (machine_of self.old) (machine_of self.new) result }
+        ensures { Leaves (end_page (refusal_of self.old.copies self.old.spool) page (machine_of self.old)) (machine_of self.old) (machine_of self.new) result }
     {
-        self.spool.receive(page, self.copies).map_err(refusal_for)?;
+        self.spool.receive(page, self.copies)?;
         self.state = State::Home;
         Ok(())
     }

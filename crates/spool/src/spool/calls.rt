@@ -1,54 +1,68 @@
-ghost use Rattle.std.specs.Prelude.{◌≡◌, ℕ, ◌<◌, ◌≤◌, slice_index_or};
+ghost use Rattle.std.specs.Prelude.{◌≡◌, ◌≤◌, None, if◌then◌else◌, slice_get};
 ghost use Rattle.engine.specs.Tallies.{counted};
-ghost use Rattle.spool.specs.Spooled.{empty, idle, waiting_page, next_sheet, next_of, commit, stack, Receives, discard, jam, unfed_in, full};
-ghost use Rattle.spool.specs.Spools.{spool_of, numbers_of, told};
+ghost use Rattle.spool.specs.Kept.{Kept};
+ghost use Rattle.spool.specs.Spooled.{empty, idle, next_sheet, next_of, commit, stack, Receives, discard, jam, unfed_in, full, free};
+ghost use Rattle.spool.specs.Spools.{numbers_of, told};
 
 use super::Spool;
 use crate::copies::Copies;
 use crate::page::{Counters, NotReceived, WaitingPage};
 use engine::{CopyCount, PageCount, Sheet, Tally};
+use queue::Queue;
 
 impl Spool {
     // Nothing waits and nothing is in the path; so much is stacked.
     fn at(stacked: Tally) -> Spool
-        requires { (stacked.pages.0 ≤ 65535) × (stacked.copies.0 ≤ 254) }
-        ensures { spool_of result ≡ idle (counted stacked) }
+        requires { stacked.copies.0 ≤ 254 }
+        ensures { result ≡ idle (counted stacked) }
     {
-        let blank = Sheet {
-            page: 0,
-            copy: 0,
-            last: false,
-        };
         Spool {
             received: stacked.pages,
             committed: stacked,
             stacked,
-            pages: [WaitingPage { page: 0, unfed: 0 }; 16],
-            waiting: 0,
-            path: [blank; 8],
-            fed: 0,
+            pages: Queue::new(WaitingPage { page: 0, unfed: 0 }),
+            path: Queue::new(Sheet {
+                page: 0,
+                copy: 0,
+                last: false,
+            }),
         }
     }
 
     pub fn new() -> Spool
-        ensures { spool_of result ≡ empty }
+        ensures { result ≡ empty }
     {
         Spool::at(Tally::none())
     }
 
-    // Whether sixteen pages wait, so that another cannot.
-    pub fn is_full(&self) -> bool
-        ensures { result ≡ full (spool_of self.now) }
+    // What holds of every spool: callers, who see a spool by what it holds, learn it here.
+    pub fn kept(&self)
+        ensures { Kept self.now }
     {
-        self.waiting == 16
+        let _ = &self.received;
     }
 
-    // The next copy of the first waiting page.
-    fn copy_of_first(&self) -> Sheet
-        requires { 0 < self.now.waiting }
-        ensures { result ≡ next_sheet (counted self.now.committed) (slice_index_or self.now.pages 0 (waiting_page 0 0)) }
+    // Whether sixteen pages wait, so that another cannot.
+    pub fn is_full(&self) -> bool
+        ensures { result ≡ full self.now }
     {
-        let first = self.pages[0];
+        self.pages.is_full()
+    }
+
+    // The page of which a copy can be fed: the first that waits, where the path has a place.
+    fn first_to_feed(&self) -> Option<WaitingPage>
+        ensures { result ≡ (if free self.now then slice_get self.now.waiting 0 else None) }
+    {
+        if self.path.is_full() {
+            return None;
+        }
+        self.pages.first()
+    }
+
+    // The next copy of this page, which waits first.
+    fn copy_of(&self, first: WaitingPage) -> Sheet
+        ensures { result ≡ next_sheet self.now.committed first }
+    {
         Sheet {
             page: first.page,
             copy: self.committed.copies.0 + 1,
@@ -58,109 +72,92 @@ impl Spool {
 
     // The next copy to feed, where a page waits and the path has a place.
     pub fn next(&self) -> Option<Sheet>
-        ensures { result ≡ next_of (spool_of self.now) }
+        ensures { result ≡ next_of self.now }
     {
-        if self.fed == 8 || self.waiting == 0 {
-            return None;
-        }
-        Some(self.copy_of_first())
+        let first = self.first_to_feed()?;
+        Some(self.copy_of(first))
     }
 
     // The next copy was fed.
     pub fn commit(&mut self)
-        ensures { spool_of self.new ≡ commit (spool_of self.old) }
+        ensures { self.new ≡ commit self.old }
     {
-        if self.fed == 8 {
+        let Some(first) = self.first_to_feed() else {
             return;
-        }
-        if self.waiting == 0 {
-            return;
-        }
-        let sheet = self.copy_of_first();
+        };
+        let sheet = self.copy_of(first);
         let Some(committed) = self.committed.plus(sheet) else {
             return;
         };
         self.committed = committed;
-        let _ = queue::add(&mut self.path, self.fed, sheet);
-        self.fed += 1;
+        let _ = self.path.push(sheet);
         if sheet.last {
-            let _ = queue::take_first(&mut self.pages, self.waiting);
-            self.waiting -= 1;
+            let _ = self.pages.take_first();
         } else {
-            let first = self.pages[0];
-            self.pages[0] = WaitingPage {
-                page: first.page,
-                unfed: first.unfed - 1,
-            };
+            let unfed = first.unfed - 1;
+            self.pages.set(0, WaitingPage { unfed, ..first });
         }
     }
 
     // The path's oldest sheet was stacked.
     pub fn stack(&mut self)
-        ensures { spool_of self.new ≡ stack (spool_of self.old) }
+        ensures { self.new ≡ stack self.old }
     {
-        if self.fed == 0 {
+        let Some(sheet) = self.path.first() else {
             return;
-        }
-        let sheet = self.path[0];
+        };
         let Some(stacked) = self.stacked.plus(sheet) else {
             return;
         };
-        let _ = queue::take_first(&mut self.path, self.fed);
-        self.fed -= 1;
+        let _ = self.path.take_first();
         self.stacked = stacked;
     }
 
     // A page with so many copies waits, or is refused.
     pub fn receive(&mut self, page: u32, copies: Copies) -> Result<(), NotReceived>
-        ensures { Receives page copies.count (spool_of self.old) (spool_of self.new) result }
+        ensures { Receives page copies self.old self.new result }
     {
         if self.is_full() {
             return Err(NotReceived::SixteenWait);
         }
-        if self.received.0 == 65535 {
-            return Err(NotReceived::PagesSpent);
-        }
-        let begun = self.received.0 == self.committed.pages.0;
-        if begun && u16::from(self.committed.copies.0) + u16::from(copies.count()) > 255 {
-            return Err(NotReceived::CopiesSpent);
-        }
         let unfed = copies.count();
-        let _ = queue::add(&mut self.pages, self.waiting, WaitingPage { page, unfed });
-        self.waiting += 1;
-        self.received = PageCount(self.received.0 + 1);
+        let PageCount(count) = self.received;
+        let count = count.checked_add(1).ok_or(NotReceived::PagesSpent)?;
+        if self.received == self.committed.pages {
+            let begun = self.committed.copies.0;
+            begun.checked_add(unfed).ok_or(NotReceived::CopiesSpent)?;
+        }
+        let _ = self.pages.push(WaitingPage { page, unfed });
+        self.received = PageCount(count);
         Ok(())
     }
 
     // The waiting pages are dropped; the path goes on.
     pub fn discard(&mut self)
-        ensures { spool_of self.new ≡ discard (spool_of self.old) }
+        ensures { self.new ≡ discard self.old }
     {
-        self.waiting = 0;
+        self.pages.clear();
         self.received = self.committed.pages;
     }
 
     // The waiting pages and the sheets in the path are dropped.
     pub fn jam(&mut self)
-        ensures { spool_of self.new ≡ jam (spool_of self.old) }
+        ensures { self.new ≡ jam self.old }
     {
         *self = Spool::at(self.stacked);
     }
 
     // How many copies wait to be fed.
     pub fn unfed(&self) -> usize
-        ensures sum { result ≡ unfed_in (spool_of self.now).waiting }
+        ensures sum { result ≡ unfed_in self.now.waiting }
         ensures most { result ≤ 4080 }
     {
-        let mut sum = 0;
-        for i in 0..self.waiting {
-            sum += usize::from(self.pages[i].unfed);
-        }
-        sum
+        let pages = self.pages.as_slice();
+        pages.iter().map(|page| usize::from(page.unfed)).sum()
     }
 
     pub fn counters(&self) -> Counters
-        ensures { told result ≡ numbers_of (spool_of self.now) }
+        ensures { told result ≡ numbers_of self.now }
     {
         Counters {
             received: self.received,
