@@ -3,7 +3,7 @@ use Rattle.std.proofs.Common.{◌≡◌, ℕ, Bool, true, false, cond, List, len
 use Rattle.command.specs.declared.header.Header.{Header}
 use Rattle.command.specs.declared.state.State.{State}
 use Rattle.command.specs.declared.state.Command.{Command}
-use Rattle.command.specs.declared.refusal.Refusal.TheVariants.{DataLength, NotAccepted, NotAllowed}
+use Rattle.refusal.specs.declared.Refusal.TheVariants.{DataLength, NotAccepted, NotAllowed}
 use Rattle.command.specs.declared.table.Row.{Row}
 use Rattle.command.specs.Headers.{header_of, plain_flag, data_of}
 use Rattle.command.specs.Tables.{row_of, fits, permits}

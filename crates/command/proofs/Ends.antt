@@ -1,7 +1,9 @@
--- Only the code of End Page makes an End Page.
-use Rattle.std.proofs.Common.{◌≡◌, ℕ, Bool, true, false, cond, eqb, List, [], ◌∷◌, Some, None, Ok, Err, Option, refl, arith}
+-- Only a command whose kind is the end of a page makes an End Page.
+use Rattle.std.proofs.Common.{◌≡◌, ℕ, Bool, true, false, cond, eqb, List, [], ◌∷◌, Some, None, Ok, Err, Option, sym, refl, ap, subst, arith}
+use Rattle.std.specs.Option.{option_map}
+use Rattle.std.proofs.lemmas.Bool.{eqb-true}
 use Rattle.command.specs.declared.header.Header.{Header}
-use Rattle.command.specs.declared.refusal.Refusal.TheVariants.{NotAccepted}
+use Rattle.refusal.specs.declared.Refusal.TheVariants.{NotAccepted}
 use Rattle.command.specs.declared.state.State.{State}
 use Rattle.command.specs.declared.state.Command.TheVariants.{EndPage, LoadCopyControl, DiscardBufferedData}
 use Rattle.command.specs.declared.table.Row.{Row}
@@ -10,7 +12,7 @@ use Rattle.command.specs.declared.table.Kind.TheVariants as kinds
 use Rattle.command.specs.declared.table.DataLength.TheVariants.{Exactly, Any}
 use Rattle.command.specs.declared.table.Allowed.TheVariants.{Home, Open, Every}
 use Rattle.command.specs.Headers.{two}
-use Rattle.command.specs.Tables.{row, row_of}
+use Rattle.command.specs.Tables.{row, row_of, kind_of, ends}
 use Rattle.command.specs.Commands.{page_in, copies_in, order_in, read_as, read_by, decoded}
 use Rattle.command.proofs.Decoded.{decoded_by_law}
 
@@ -50,22 +52,26 @@ reads_end kinds.NoOperation d e = absurd (let z : ◌≡◌ {A = ℕ} 0 1 = cc i
 reads_end kinds.SetHomeState d e = absurd (let z : ◌≡◌ {A = ℕ} 0 1 = cc in omega arith)
 reads_end kinds.ExecuteOrderAnyState d e = absurd (order_other d e)
 
-row_end : (c : ℕ) (r : Row) → row_of c ≡ Some r → r.kind ≡ kinds.EndPage → eqb 0xD6BF c ≡ true
+-- the end of a page is in the table at this code alone
+pub ends_at : (c : ℕ) → ends (kind_of c) ≡ eqb 0xD6BF c
 unfolding row_of
-row_end c r e k = go (eqb 0xD6AF c) (eqb 0xD69F c) (eqb 0xD6BF c) (eqb 0xD603 c) (eqb 0xD697 c) (eqb 0xD633 c) e k
+ends_at c = go (eqb 0xD6BF c) refl
   where
-    go : (p q n o h x : Bool) → cond p (Some (row 0xD6AF kinds.BeginPage (Exactly 4) Home)) (cond q (Some (row 0xD69F kinds.LoadCopyControl (Exactly 2) Home)) (cond n (Some (row 0xD6BF kinds.EndPage Any Open)) (cond o (Some (row 0xD603 kinds.NoOperation Any Every)) (cond h (Some (row 0xD697 kinds.SetHomeState Any Every)) (cond x (Some (row 0xD633 kinds.ExecuteOrderAnyState (Exactly 2) Every)) None))))) ≡ Some r → r.kind ≡ kinds.EndPage → n ≡ true
-    go true q n o h x e k = absurd (let z : ◌≡◌ {A = ℕ} 0 1 = cc in omega arith)
-    go false true n o h x e k = absurd (let z : ◌≡◌ {A = ℕ} 0 1 = cc in omega arith)
-    go false false true o h x e k = refl
-    go false false false true h x e k = absurd (let z : ◌≡◌ {A = ℕ} 0 1 = cc in omega arith)
-    go false false false false true x e k = absurd (let z : ◌≡◌ {A = ℕ} 0 1 = cc in omega arith)
-    go false false false false false true e k = absurd (let z : ◌≡◌ {A = ℕ} 0 1 = cc in omega arith)
-    go false false false false false false e k = absurd (let z : ◌≡◌ {A = ℕ} 0 1 = cc in omega arith)
+    other : (p q o h x : Bool) → ends (option_map (λ (r : Row). r.kind) (cond p (Some (row 0xD6AF kinds.BeginPage (Exactly 4) Home)) (cond q (Some (row 0xD69F kinds.LoadCopyControl (Exactly 2) Home)) (cond o (Some (row 0xD603 kinds.NoOperation Any Every)) (cond h (Some (row 0xD697 kinds.SetHomeState Any Every)) (cond x (Some (row 0xD633 kinds.ExecuteOrderAnyState (Exactly 2) Every)) None)))))) ≡ false
+    other true q o h x = refl
+    other false true o h x = refl
+    other false false true h x = refl
+    other false false false true x = refl
+    other false false false false true = refl
+    other false false false false false = refl
 
-pub decoded_end : (s : State) (h : Header) (d : List ℕ) → decoded s h d ≡ Ok EndPage → eqb 0xD6BF h.code ≡ true
-decoded_end s h d e = go (row_of h.code) refl (decoded_by_law (row_of h.code) s h d EndPage e)
+    go : (b : Bool) → eqb 0xD6BF c ≡ b → ends (kind_of c) ≡ b
+    go true e = subst (λ n. ends (kind_of n) ≡ true) (eqb-true 0xD6BF c e) refl
+    go false e = subst (λ n. ends (option_map (λ (r : Row). r.kind) (cond (eqb 0xD6AF c) (Some (row 0xD6AF kinds.BeginPage (Exactly 4) Home)) (cond (eqb 0xD69F c) (Some (row 0xD69F kinds.LoadCopyControl (Exactly 2) Home)) (cond n (Some (row 0xD6BF kinds.EndPage Any Open)) (cond (eqb 0xD603 c) (Some (row 0xD603 kinds.NoOperation Any Every)) (cond (eqb 0xD697 c) (Some (row 0xD697 kinds.SetHomeState Any Every)) (cond (eqb 0xD633 c) (Some (row 0xD633 kinds.ExecuteOrderAnyState (Exactly 2) Every)) None))))))) ≡ false) (sym e) (other (eqb 0xD6AF c) (eqb 0xD69F c) (eqb 0xD603 c) (eqb 0xD697 c) (eqb 0xD633 c))
+
+pub decoded_end : (s : State) (h : Header) (d : List ℕ) → decoded s h d ≡ Ok EndPage → kind_of h.code ≡ Some kinds.EndPage
+decoded_end s h d e = go (row_of h.code) (decoded_by_law (row_of h.code) s h d EndPage e)
   where
-    go : (o : Option Row) → row_of h.code ≡ o → read_by o d ≡ Ok EndPage → eqb 0xD6BF h.code ≡ true
-    go None eo r = absurd (let z : ◌≡◌ {A = ℕ} 0 1 = cc in omega arith)
-    go (Some w) eo r = row_end h.code w eo (reads_end w.kind d r)
+    go : (o : Option Row) → read_by o d ≡ Ok EndPage → option_map (λ (r : Row). r.kind) o ≡ Some kinds.EndPage
+    go None r = absurd (let z : ◌≡◌ {A = ℕ} 0 1 = cc in omega arith)
+    go (Some w) r = ap Some (reads_end w.kind d r)

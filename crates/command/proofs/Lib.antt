@@ -1,3 +1,2 @@
-pub mod Searching
 pub mod Decoded
 pub mod Ends

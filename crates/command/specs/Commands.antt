@@ -11,8 +11,8 @@ use Rattle.command.specs.declared.header.Header.{Header}
 use Rattle.command.specs.declared.state.State.{State}
 use Rattle.command.specs.declared.state.Command.{Command}
 use Rattle.command.specs.declared.state.Command.TheVariants.{BeginPage, EndPage, LoadCopyControl, NoOperation, SetHomeState, DiscardBufferedData}
-use Rattle.command.specs.declared.refusal.Refusal.{Refusal}
-use Rattle.command.specs.declared.refusal.Refusal.TheVariants.{UnknownCode, DataLength, NotAccepted, NotAllowed}
+use Rattle.refusal.specs.declared.Refusal.{Refusal}
+use Rattle.refusal.specs.declared.Refusal.TheVariants.{UnknownCode, DataLength, NotAccepted, NotAllowed}
 use Rattle.command.specs.declared.table.Row.{Row}
 use Rattle.command.specs.declared.table.Kind.{Kind}
 use Rattle.command.specs.declared.table.Kind.TheVariants as kinds

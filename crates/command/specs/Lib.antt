@@ -1,4 +1,3 @@
-pub mod Refusals
 pub mod Headers
 pub mod Tables
 pub mod Commands

@@ -1,9 +1,13 @@
 -- The table of command codes.
 --   table     each code with its command, its data length and the states that allow it
 --   row_of     the row of a code
+--   kind_of   the command that a code names
+--   ends      it is the end of a page
 --   fits      a data length is the row's
 --   permits   a state allows the row's command
-use Rattle.std.specs.Prelude.{ℕ, Bool, true, false, cond, List, [], ◌∷◌, Some, None, Option, ◌==◌}
+use Rattle.std.specs.Prelude.{ℕ, Bool, true, false, List, [], ◌∷◌, Some, None, Option, ◌==◌}
+use Rattle.std.specs.List.{find}
+use Rattle.std.specs.Option.{option_map}
 use Rattle.command.specs.declared.state.State.{State}
 use Rattle.command.specs.declared.state.State.TheVariants.{Home as InHome, Page}
 use Rattle.command.specs.declared.table.Row.{Row}
@@ -27,12 +31,20 @@ table =
     ∷ row 0xD633 ExecuteOrderAnyState (Exactly 2) Every
     ∷ []
 
-abbrev pub row_in : List Row → ℕ → Option Row
-row_in [] c = None
-row_in (r ∷ rs) c = cond (r.code == c) (Some r) (row_in rs c)
-
 unfoldable pub row_of : ℕ → Option Row
-row_of c = row_in table c
+row_of c = find (λ r. r.code == c) table
+
+abbrev pub kind_of : ℕ → Option Kind
+kind_of c = option_map (λ r. r.kind) (row_of c)
+
+abbrev pub ends : Option Kind → Bool
+ends None = false
+ends (Some BeginPage) = false
+ends (Some EndPage) = true
+ends (Some LoadCopyControl) = false
+ends (Some NoOperation) = false
+ends (Some SetHomeState) = false
+ends (Some ExecuteOrderAnyState) = false
 
 abbrev pub fits : DataLength → ℕ → Bool
 fits (Exactly n) k = k == n

@@ -4,17 +4,15 @@ ghost use Rattle.command.specs.Commands.{decoded};
 
 use crate::header::Header;
 use crate::reading::read;
-use crate::refusal::Refusal;
 use crate::state::{Command, State};
 use crate::table::find;
+use refusal::Refusal;
 
 // The command that a header and its data make in a state.
 pub fn decode(state: State, header: Header, data: &[u8]) -> Result<Command, Refusal>
     ensures { result ≡ decoded state header «data».now }
 {
-    let Some(row) = find(header.code) else {
-        return Err(Refusal::UnknownCode);
-    };
+    let row = find(header.code).ok_or(Refusal::UnknownCode)?;
     if !row.allowed.permits(state) {
         return Err(Refusal::NotAllowed);
     }

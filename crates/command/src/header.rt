@@ -1,8 +1,11 @@
 // The header of a command.
 ghost use Rattle.std.specs.Prelude.{◌≡◌, drop, Some, None};
 ghost use Rattle.command.specs.Headers.{header_from, header_of, in_range, asks_reply, plain_flag};
+ghost use Rattle.command.specs.Tables.{kind_of};
 
-#[derive(Clone, Copy)]
+use crate::table::{Kind, find};
+
+#[derive(Clone, Copy, Debug, PartialEq, Eq)]
 pub struct Header {
     // How many bytes the command has, the length's own two counted.
     pub length: u16,
@@ -33,10 +36,17 @@ impl Header {
         Some((header, rest))
     }
 
+    // The command that the code names.
+    pub fn kind(self) -> Option<Kind>
+        ensures { result ≡ kind_of self.code }
+    {
+        find(self.code).map(|row| row.kind)
+    }
+
     pub fn in_range(self) -> bool
         ensures { result ≡ in_range self }
     {
-        self.length >= 5 && self.length <= 32767
+        (5..=32767).contains(&self.length)
     }
 
     pub fn asks_reply(self) -> bool

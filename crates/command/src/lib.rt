@@ -4,11 +4,11 @@
 mod decoding;
 mod header;
 mod reading;
-mod refusal;
 mod state;
 mod table;
 
 pub use decoding::decode;
 pub use header::Header;
-pub use refusal::{Fault, Refusal};
+pub use refusal::{Fault, Place, Refusal};
 pub use state::{Command, State};
+pub use table::Kind;

@@ -2,24 +2,23 @@
 ghost use Rattle.std.specs.Prelude.{◌≡◌};
 ghost use Rattle.command.specs.Commands.{page_in, copies_in, order_in, read_as};
 
-use crate::refusal::Refusal;
 use crate::state::Command;
 use crate::table::Kind;
+use refusal::Refusal;
 
 const DISCARD_BUFFERED_DATA: u16 = 0xF200;
 
 fn begin_page(data: &[u8]) -> Result<Command, Refusal>
     ensures { result ≡ page_in «data».now }
 {
-    match data {
-        [a, b, c, d] => Ok(Command::BeginPage(u32::from_be_bytes([*a, *b, *c, *d]))),
-        _ => Err(Refusal::DataLength),
-    }
+    let page = <[u8; 4]>::try_from(data).map_err(|_| Refusal::DataLength)?;
+    Ok(Command::BeginPage(u32::from_be_bytes(page)))
 }
 
 fn load_copy_control(data: &[u8]) -> Result<Command, Refusal>
     ensures { result ≡ copies_in «data».now }
 {
+    // A slice pattern: it takes the entry's length and tells both grounds apart at once.
     match data {
         [2, copies] => Ok(Command::LoadCopyControl(*copies)),
         [_, _] => Err(Refusal::NotAccepted),
@@ -30,10 +29,8 @@ fn load_copy_control(data: &[u8]) -> Result<Command, Refusal>
 fn execute_order(data: &[u8]) -> Result<Command, Refusal>
     ensures { result ≡ order_in «data».now }
 {
-    let [a, b] = data else {
-        return Err(Refusal::DataLength);
-    };
-    if u16::from_be_bytes([*a, *b]) == DISCARD_BUFFERED_DATA {
+    let order = <[u8; 2]>::try_from(data).map_err(|_| Refusal::DataLength)?;
+    if u16::from_be_bytes(order) == DISCARD_BUFFERED_DATA {
         Ok(Command::DiscardBufferedData)
     } else {
         Err(Refusal::NotAccepted)

@@ -1,7 +1,8 @@
 // What a command is once its data is read, and the states that it may meet.
 
-// What is open.
-#[derive(Clone, Copy)]
+// What is open. No Option<u32>: the table's rows and `obey` speak of home state and page state, and a match on None
+// would not.
+#[derive(Clone, Copy, Debug, PartialEq, Eq)]
 pub enum State {
     // Nothing.
     Home,
@@ -10,7 +11,7 @@ pub enum State {
 }
 
 // A command with its data.
-#[derive(Clone, Copy)]
+#[derive(Clone, Copy, Debug, PartialEq, Eq)]
 pub enum Command {
     // Opens the page with this ID.
     BeginPage(u32),

@@ -1,11 +1,11 @@
 // The table of command codes, each with its data length and the states that allow it.
 ghost use Rattle.std.specs.Prelude.{◌≡◌};
-ghost use Rattle.command.specs.Tables.{table, row_in, row_of, fits, permits};
+ghost use Rattle.command.specs.Tables.{row_of, fits, permits};
 
 use crate::state::State;
 
 // Which command a code names.
-#[derive(Clone, Copy)]
+#[derive(Clone, Copy, Debug, PartialEq, Eq)]
 pub enum Kind {
     BeginPage,
     EndPage,
@@ -15,13 +15,14 @@ pub enum Kind {
     ExecuteOrderAnyState,
 }
 
-#[derive(Clone, Copy)]
+// No Option<usize>: in a row of the table `Any` says what None would not.
+#[derive(Clone, Copy, Debug, PartialEq, Eq)]
 pub enum DataLength {
     Exactly(usize),
     Any,
 }
 
-#[derive(Clone, Copy)]
+#[derive(Clone, Copy, Debug, PartialEq, Eq)]
 pub enum Allowed {
     // In home state.
     Home,
@@ -31,7 +32,7 @@ pub enum Allowed {
     Every,
 }
 
-#[derive(Clone, Copy)]
+#[derive(Clone, Copy, Debug, PartialEq, Eq)]
 pub struct Row {
     pub code: u16,
     pub kind: Kind,
@@ -103,26 +104,9 @@ impl Allowed {
     }
 }
 
-fn find_in(rows: &[Row], code: u16) -> Option<Row>
-    ensures { result ≡ row_in rows.now code }
-{
-    for row in rows {
-        if row.code == code {
-            return Some(*row);
-        }
-    }
-    None
-}
-
-fn find_in_table(code: u16) -> Option<Row>
-    ensures { result ≡ row_in table code }
-{
-    find_in(&TABLE, code)
-}
-
 // The row of a code.
 pub fn find(code: u16) -> Option<Row>
     ensures { result ≡ row_of code }
 {
-    find_in_table(code)
+    TABLE.iter().find(|row| row.code == code).copied()
 }

@@ -2,9 +2,10 @@
 use Rattle.std.proofs.Common.{◌≡◌, ℕ, ◌≤◌, Bool, true, false, cond, ltb, List, length, take, Some, None, Ok, Err, Option, Result, sym, refl, ap, subst, arith}
 use Rattle.std.proofs.lemmas.Bool.{ltb-false, le-leb, cond-true}
 use Rattle.command.specs.declared.header.Header.{Header}
-use Rattle.command.specs.declared.refusal.Fault.{Fault}
-use Rattle.command.specs.declared.refusal.Refusal.{Refusal}
-use Rattle.command.specs.declared.refusal.Refusal.TheVariants.{Incomplete, AreaShort, SixteenWait, ReplyPending}
+use Rattle.refusal.specs.declared.Fault.{Fault}
+use Rattle.refusal.specs.declared.Refusal.{Refusal}
+use Rattle.refusal.specs.declared.Refusal.TheVariants.{Incomplete, AreaShort, SixteenWait, ReplyPending}
+use Rattle.refusal.specs.Refusals.{untouching}
 use Rattle.command.specs.Headers.{header_of, in_range, asks_reply, data_of}
 use Rattle.command.specs.Commands.{command_in}
 use Rattle.spool.specs.Spools.{Numbers, numbers_of}
@@ -12,10 +13,9 @@ use Rattle.spool.specs.Receivers.{nothing, closing, done_by}
 use Rattle.spool.specs.Runs.{Replies}
 use Rattle.reply.specs.Replies.{ack, nack, written}
 use Rattle.interpreter.specs.Machines.{Machine, home, pend, receiver_of}
-use Rattle.interpreter.specs.declared.taken.Outcome.TheVariants.{Accepted, Refused}
 use Rattle.interpreter.specs.Outcomes.{told}
 use Rattle.interpreter.specs.Taking.{Taking, taking, fault_of, untouched, unreadable, handed, accepted, faulted, settled, blocked, interpreted, whole, headed, take_of}
-use Rattle.interpreter.specs.Takes.{untouching, effect_by, effect_read}
+use Rattle.interpreter.specs.Takes.{effect_by, effect_read}
 use Rattle.interpreter.proofs.Performed.{performed_effect, performed_refusal}
 
 pub record Seen (bs : List ℕ) (m : Machine) (t : Taking) : Type 0 where
@@ -36,14 +36,14 @@ nothing_done bs m area r e = record { effect = ap (λ b. done_by (cond b nothing
 handed_over : (bs : List ℕ) (m : Machine) (area : List ℕ) (f : Fault) (h : Header) → 40 ≤ length area → Seen bs m (handed f h m area)
 handed_over bs m area f h le = go (asks_reply h)
   where
-    go : (b : Bool) → Seen bs m (cond b (taking (pend None m) (written (nack f (numbers_of m.spool)) area) (told h.length (Refused ReplyPending) 40 m.marks)) (taking m area (told h.length (Refused ReplyPending) 0 m.marks)))
+    go : (b : Bool) → Seen bs m (cond b (taking (pend None m) (written (nack f (numbers_of m.spool)) area) (told h.length (Err ReplyPending) 40 m.marks)) (taking m area (told h.length (Err ReplyPending) 0 m.marks)))
     go true = record { effect = refl; counts = nack_front f (numbers_of m.spool) area le }
     go false = record { effect = refl; counts = tt }
 
 obeyed : (bs : List ℕ) (m n : Machine) (area : List ℕ) (h : Header) → 40 ≤ length area → receiver_of n ≡ done_by (effect_read (command_in bs)) (receiver_of m) → Seen bs m (accepted h n area)
 obeyed bs m n area h le e = go (asks_reply h)
   where
-    go : (b : Bool) → Seen bs m (cond b (taking n (written (ack (numbers_of n.spool)) area) (told h.length Accepted 16 n.marks)) (taking n area (told h.length Accepted 0 n.marks)))
+    go : (b : Bool) → Seen bs m (cond b (taking n (written (ack (numbers_of n.spool)) area) (told h.length (Ok tt) 16 n.marks)) (taking n area (told h.length (Ok tt) 0 n.marks)))
     go true = record { effect = e; counts = ack_front (numbers_of n.spool) area le }
     go false = record { effect = e; counts = tt }
 
@@ -53,7 +53,7 @@ at_fault bs m area f h le e = go (asks_reply h)
     closed : receiver_of (home m) ≡ done_by (cond (untouching f.refusal) nothing closing) (receiver_of m)
     closed = ap (λ b. done_by (cond b nothing closing) (receiver_of m)) (sym e)
 
-    go : (b : Bool) → Seen bs m (cond b (taking (home m) (written (nack f (numbers_of m.spool)) area) (told h.length (Refused f.refusal) 40 m.marks)) (taking (pend (Some f) (home m)) area (told h.length (Refused f.refusal) 0 m.marks)))
+    go : (b : Bool) → Seen bs m (cond b (taking (home m) (written (nack f (numbers_of m.spool)) area) (told h.length (Err f.refusal) 40 m.marks)) (taking (pend (Some f) (home m)) area (told h.length (Err f.refusal) 0 m.marks)))
     go true = record { effect = closed; counts = nack_front f (numbers_of m.spool) area le }
     go false = record { effect = closed; counts = tt }
 

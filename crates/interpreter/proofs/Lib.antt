@@ -1,3 +1,4 @@
 mod Refusing
+mod Fronts
 pub mod Performed
 pub mod Effects

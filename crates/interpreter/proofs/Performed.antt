@@ -2,9 +2,9 @@
 use Rattle.std.proofs.Common.{◌≡◌, ℕ, ◌+◌, Bool, true, false, cond, eqb, ltb, List, [], ◌∷◌, length, Some, None, Ok, Err, Option, Result, sym, refl, ap, ◌∙◌, arith}
 use Rattle.std.proofs.lemmas.Bool.{both_ways}
 use Rattle.command.specs.declared.header.Header.{Header}
-use Rattle.command.specs.declared.refusal.Refusal.{Refusal}
-use Rattle.command.specs.declared.refusal.Refusal.TheVariants.{UnknownCode, DataLength, NotAccepted, NotAllowed}
-use Rattle.command.specs.declared.refusal.Refusal.TheVariants as refusals
+use Rattle.refusal.specs.declared.Refusal.{Refusal}
+use Rattle.refusal.specs.declared.Refusal.TheVariants.{UnknownCode, DataLength, NotAccepted, NotAllowed}
+use Rattle.refusal.specs.declared.Refusal.TheVariants as refusals
 use Rattle.command.specs.declared.state.Command.{Command}
 use Rattle.command.specs.declared.state.Command.TheVariants.{BeginPage, EndPage, LoadCopyControl, NoOperation, SetHomeState, DiscardBufferedData}
 use Rattle.command.specs.declared.state.State.{State}
@@ -12,19 +12,21 @@ use Rattle.command.specs.declared.state.State.TheVariants.{Home, Page}
 use Rattle.command.specs.declared.table.Row.{Row}
 use Rattle.command.specs.declared.table.Kind.{Kind}
 use Rattle.command.specs.declared.table.Kind.TheVariants as kinds
+use Rattle.refusal.specs.Refusals.{untouching}
 use Rattle.command.specs.Headers.{two, header_of, plain_flag, data_of}
-use Rattle.command.specs.Tables.{row_of, fits, permits}
+use Rattle.command.specs.Tables.{row_of, kind_of, ends, fits, permits}
 use Rattle.command.specs.Commands.{page_in, copies_in, order_in, read_as, decoded_by, decoded, command_in}
 use Rattle.command.proofs.Decoded.{decoded_is}
 use Rattle.command.proofs.Ends.{decoded_end}
 use Rattle.spool.specs.declared.page.NotReceived.{NotReceived}
 use Rattle.spool.specs.declared.page.NotReceived.TheVariants.{SixteenWait, PagesSpent, CopiesSpent}
+use Rattle.spool.specs.Refusing.{refusal_for}
 use Rattle.spool.specs.Spooled.{full, refusal_of}
 use Rattle.spool.specs.Receivers.{Receiver, receiver, done_by}
 use Rattle.interpreter.specs.Machines.{Machine, machine, open_page, receiver_of}
-use Rattle.interpreter.specs.Performing.{end_page, load_copies, perform_in, refusal_for}
+use Rattle.interpreter.specs.Performing.{end_page, load_copies, perform_in}
 use Rattle.interpreter.specs.Taking.{performed, interpreted, blocked_in, blocked}
-use Rattle.interpreter.specs.Takes.{untouching, effect_in, effect_read}
+use Rattle.interpreter.specs.Takes.{effect_in, effect_read}
 
 ok_is : (a b : Machine) → ◌≡◌ {A = Result Machine Refusal} (Ok a) (Ok b) → b ≡ a
 ok_is a b e = cc
@@ -161,8 +163,8 @@ perform_refusal (Page p) NoOperation m r free e = never_err _ r e
 perform_refusal (Page p) SetHomeState m r free e = never_err _ r e
 perform_refusal (Page p) DiscardBufferedData m r free e = never_err _ r e
 
-free_place : (m : Machine) (h : Header) (p : ℕ) → m.state ≡ Page p → eqb 0xD6BF h.code ≡ true → blocked h m ≡ false → full m.spool ≡ false
-free_place m h p es ec f = sym (ap (λ b. cond b (full m.spool) false) ec) ∙ ap (λ s. blocked_in s h m) (sym es) ∙ f
+free_place : (m : Machine) (h : Header) (p : ℕ) → m.state ≡ Page p → kind_of h.code ≡ Some kinds.EndPage → blocked h m ≡ false → full m.spool ≡ false
+free_place m h p es ek f = sym (ap (λ o. cond (ends o) (full m.spool) false) ek) ∙ ap (λ s. blocked_in s h m) (sym es) ∙ f
 
 pub performed_refusal : (bs : List ℕ) (m : Machine) (h : Header) (r : Refusal) → blocked h m ≡ false → interpreted h (data_of h bs) m ≡ Err r → untouching r ≡ false
 performed_refusal bs m h r free e = go (decoded m.state h (data_of h bs)) refl e

@@ -6,12 +6,10 @@
 --   open_page    the page that is open
 --   receiver_of  the machine as far as sheets and counters go
 use Rattle.std.specs.Prelude.{ℕ, Some, None, Option}
-use Rattle.command.specs.declared.refusal.Fault.{Fault}
+use Rattle.refusal.specs.declared.Fault.{Fault}
 use Rattle.command.specs.declared.state.State.{State}
 use Rattle.command.specs.declared.state.State.TheVariants.{Home, Page}
-use Rattle.spool.specs.declared.spool.Spool.{Spool}
 use Rattle.spool.specs.Spooled.{Spooled, empty}
-use Rattle.spool.specs.Spools.{spool_of}
 use Rattle.spool.specs.Receivers.{Receiver, receiver}
 use Rattle.interpreter.specs.declared.interpreter.Interpreter.{Interpreter}
 
@@ -25,8 +23,8 @@ pub record Machine : Type 0 where
 abbrev pub machine : Spooled → State → ℕ → Option Fault → ℕ → Machine
 machine b s n p k = record { spool = b; state = s; copies = n; pending = p; marks = k }
 
-abbrev pub machine_of : Interpreter → Spool → Machine
-machine_of i b = machine (spool_of b) i.state i.copies.count i.pending i.marks
+abbrev pub machine_of : Interpreter → Machine
+machine_of i = machine i.spool i.state i.copies i.pending i.marks
 
 abbrev pub fresh : Machine
 fresh = machine empty Home 1 None 0
@@ -40,11 +38,6 @@ pend f m = machine m.spool m.state m.copies f m.marks
 abbrev pub open_page : State → Option ℕ
 open_page Home = None
 open_page (Page id) = Some id
-
--- 0 where no page is open
-abbrev pub page_id : State → ℕ
-page_id Home = 0
-page_id (Page id) = id
 
 abbrev pub receiver_of : Machine → Receiver
 receiver_of m = receiver m.spool (open_page m.state) m.copies

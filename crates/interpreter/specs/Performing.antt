@@ -1,25 +1,18 @@
 -- What a command does to a machine in each state, or why it is refused there.
---   refusal_for   a page that the spool does not receive, as a refusal
 --   end_page      the open page waits with the copies in force, or is refused
 --   perform      each command in each state
 --   Obeys        a machine after a command, by the answer
 use Rattle.std.specs.Prelude.{◌≡◌, ℕ, cond, Some, None, Ok, Err, Option, Result, ◌==◌}
-use Rattle.command.specs.declared.refusal.Refusal.{Refusal}
-use Rattle.command.specs.declared.refusal.Refusal.TheVariants.{NotAccepted, NotAllowed}
-use Rattle.command.specs.declared.refusal.Refusal.TheVariants as refusals
+use Rattle.refusal.specs.declared.Refusal.{Refusal}
+use Rattle.refusal.specs.declared.Refusal.TheVariants.{NotAccepted, NotAllowed}
 use Rattle.command.specs.declared.state.Command.{Command}
 use Rattle.command.specs.declared.state.Command.TheVariants.{BeginPage, EndPage, LoadCopyControl, NoOperation, SetHomeState, DiscardBufferedData}
 use Rattle.command.specs.declared.state.State.{State}
 use Rattle.command.specs.declared.state.State.TheVariants.{Home, Page}
 use Rattle.spool.specs.declared.page.NotReceived.{NotReceived}
-use Rattle.spool.specs.declared.page.NotReceived.TheVariants.{SixteenWait, PagesSpent, CopiesSpent}
+use Rattle.spool.specs.Refusing.{refusal_for}
 use Rattle.spool.specs.Spooled.{refusal_of, receive, discard}
 use Rattle.interpreter.specs.Machines.{Machine, machine, home}
-
-abbrev pub refusal_for : NotReceived → Refusal
-refusal_for SixteenWait = refusals.SixteenWait
-refusal_for PagesSpent = refusals.PagesSpent
-refusal_for CopiesSpent = refusals.CopiesSpent
 
 abbrev pub end_page : Option NotReceived → ℕ → Machine → Result Machine Refusal
 end_page None id m = Ok (machine (receive id m.copies m.spool) Home m.copies m.pending m.marks)

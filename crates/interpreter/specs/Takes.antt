@@ -1,19 +1,17 @@
 -- Takes as the law over runs sees them: by the bytes handed in, what was told, and the reply.
 --   Take         a take as its caller sees it
---   untouching   the refusals that change nothing
 --   effect_in     what an accepted command comes to
 --   effect_of     what a take comes to
 --   meaning      the effects and replies of takes
-use Rattle.std.specs.Prelude.{ℕ, Bool, true, false, cond, List, take, Ok, Err, Result}
-use Rattle.command.specs.declared.refusal.Refusal.{Refusal}
-use Rattle.command.specs.declared.refusal.Refusal.TheVariants.{Incomplete, AreaShort, LengthOutOfRange, UnknownCode, DataLength, NotAccepted, SixteenWait, NotAllowed, PagesSpent, CopiesSpent, PaperLost, ReplyPending}
+use Rattle.std.specs.Prelude.{ℕ, cond, List, take, Ok, Err, Result}
+use Rattle.refusal.specs.declared.Refusal.{Refusal}
+use Rattle.refusal.specs.Refusals.{untouching}
 use Rattle.command.specs.declared.state.Command.{Command}
 use Rattle.command.specs.declared.state.Command.TheVariants.{BeginPage, EndPage, LoadCopyControl, NoOperation, SetHomeState, DiscardBufferedData}
 use Rattle.command.specs.Commands.{command_in}
 use Rattle.spool.specs.Receivers.{Effect, nothing, setting, opening, ending, closing, clearing}
 use Rattle.spool.specs.Runs.{Meaning}
-use Rattle.interpreter.specs.declared.taken.Outcome.{Outcome}
-use Rattle.interpreter.specs.declared.taken.Outcome.TheVariants.{Accepted, Refused}
+use Rattle.interpreter.specs.Outcomes.{Outcome}
 use Rattle.interpreter.specs.declared.taken.Taken.{Taken}
 
 pub record Take : Type 0 where
@@ -24,20 +22,6 @@ pub record Take : Type 0 where
 -- the bytes handed in, and what the take told and left in the reply area
 abbrev pub take_seen : List ℕ → Taken → List ℕ → Take
 take_seen bs t area = record { bytes = bs; told = t; reply = take t.reply area }
-
-abbrev pub untouching : Refusal → Bool
-untouching Incomplete = true
-untouching AreaShort = true
-untouching LengthOutOfRange = false
-untouching UnknownCode = false
-untouching DataLength = false
-untouching NotAccepted = false
-untouching SixteenWait = true
-untouching NotAllowed = false
-untouching PagesSpent = false
-untouching CopiesSpent = false
-untouching PaperLost = false
-untouching ReplyPending = true
 
 abbrev pub effect_in : Command → Effect
 effect_in (BeginPage id) = opening id
@@ -52,8 +36,8 @@ effect_read (Ok c) = effect_in c
 effect_read (Err r) = nothing
 
 abbrev pub effect_by : Outcome → List ℕ → Effect
-effect_by Accepted bs = effect_read (command_in bs)
-effect_by (Refused r) bs = cond (untouching r) nothing closing
+effect_by (Ok u) bs = effect_read (command_in bs)
+effect_by (Err r) bs = cond (untouching r) nothing closing
 
 abbrev pub effect_of : Take → Effect
 effect_of t = effect_by t.told.outcome t.bytes

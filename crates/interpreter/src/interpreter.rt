@@ -1,6 +1,8 @@
-// What is open, the copies in force, the negative reply that waits to be fetched, and the count of marks.
+// The spool, what is open, the copies in force, the negative reply that waits to be fetched, and the count of marks.
+ghost use Rattle.std.specs.Prelude.{◌<◌};
+
 use command::{Fault, State};
-use spool::Copies;
+use spool::{Copies, Spool};
 
 mod faults;
 mod obey;
@@ -8,8 +10,11 @@ mod take;
 
 #[derive(Drop)]
 pub struct Interpreter {
+    // The engine's side feeds from it and counts in it.
+    pub spool: Spool,
     state: State,
     copies: Copies,
     pending: Option<Fault>,
     marks: usize,
+    ghost some: { 0 < copies },
 }

@@ -5,4 +5,4 @@ mod interpreter;
 mod taken;
 
 pub use interpreter::Interpreter;
-pub use taken::{Outcome, Taken};
+pub use taken::Taken;

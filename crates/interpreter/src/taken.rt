@@ -5,30 +5,25 @@ ghost use Rattle.interpreter.specs.Outcomes.{number_told};
 use command::Refusal;
 
 #[derive(Clone, Copy)]
-pub enum Outcome {
-    Accepted,
-    Refused(Refusal),
-}
-
-#[derive(Clone, Copy)]
 pub struct Taken {
     // How many of the bytes are used up.
     pub used: usize,
-    pub outcome: Outcome,
+    // Accepted, or why not.
+    pub outcome: Result<(), Refusal>,
     // The length of the reply; 0 where there is none.
     pub reply: usize,
     // How many marks are on the open or latest page.
     pub marks: usize,
 }
 
-impl Outcome {
+impl Taken {
     // The refusal's number; 0 where the command was accepted.
     pub fn number(self) -> u8
-        ensures { result ≡ number_told self }
+        ensures { result ≡ number_told self.outcome }
     {
-        match self {
-            Outcome::Accepted => 0,
-            Outcome::Refused(refusal) => refusal.number(),
+        match self.outcome {
+            Ok(()) => 0,
+            Err(refusal) => refusal.number(),
         }
     }
 }

@@ -20,7 +20,7 @@ use Rattle.printer.specs.declared.printer.Printer.{Printer}
 use Rattle.printer.specs.Ends.{PrinterEnd, printer_end, station_of}
 
 abbrev pub end_of : {E : Type 0} → Ghosts E → Printer E → PrinterEnd
-end_of m p = printer_end (m.paper p.engine) (machine_of p.interpreter p.spool)
+end_of m p = printer_end (m.paper p.engine) (machine_of p.interpreter)
 
 abbrev pub Run : Type 0
 Run = runs.Run Take

@@ -1,7 +1,6 @@
 // An engine and its spool: one advance, one feed.
 ghost use Rattle.std.specs.Prelude.{◌≡◌};
 ghost use Rattle.engine.specs.Engines.{advanced};
-ghost use Rattle.spool.specs.Spools.{spool_of};
 ghost use Rattle.spool.specs.Views.{view, advance_v, feed_v, feeds_v};
 
 use engine::{Advanced, Engine};
@@ -10,7 +9,7 @@ use spool::Spool;
 // What the engine stacks the spool counts.
 pub fn advance_once<E: Engine>(engine: &mut E, spool: &mut Spool) -> Advanced
     ensures answer { result ≡ advanced (E.paper engine.old) }
-    ensures view { view (E.paper engine.new) (spool_of spool.new) ≡ advance_v (view (E.paper engine.old) (spool_of spool.old)) }
+    ensures view { view (E.paper engine.new) spool.new ≡ advance_v (view (E.paper engine.old) spool.old) }
 {
     let advanced = engine.advance();
     if let Advanced::Stacked(_) = advanced {
@@ -21,8 +20,8 @@ pub fn advance_once<E: Engine>(engine: &mut E, spool: &mut Spool) -> Advanced
 
 // What the engine takes the spool commits.
 pub fn feed_next<E: Engine>(engine: &mut E, spool: &mut Spool) -> bool
-    ensures answer { result ≡ feeds_v E.K (view (E.paper engine.old) (spool_of spool.old)) }
-    ensures view { view (E.paper engine.new) (spool_of spool.new) ≡ feed_v E.K (view (E.paper engine.old) (spool_of spool.old)) }
+    ensures answer { result ≡ feeds_v E.K (view (E.paper engine.old) spool.old) }
+    ensures view { view (E.paper engine.new) spool.new ≡ feed_v E.K (view (E.paper engine.old) spool.old) }
 {
     let Some(sheet) = spool.next() else {
         return false;

@@ -1,7 +1,6 @@
-// A printer end: an engine, its spool, and the interpreter of the host's commands.
+// A printer end: an engine, and the interpreter of the host's commands with its spool.
 use engine::Engine;
 use interpreter::Interpreter;
-use spool::Spool;
 
 mod calls;
 mod steps;
@@ -9,6 +8,5 @@ mod steps;
 #[derive(Drop)]
 pub struct Printer<E: Engine> {
     engine: E,
-    spool: Spool,
     interpreter: Interpreter,
 }

@@ -2,17 +2,18 @@
 #![tactic(auto)]
 
 ghost use Rattle.std.specs.Prelude.{◌≡◌};
-ghost use Rattle.refusal.specs.Refusals.{number_of, layer_of, exception_of, names_overlay};
+ghost use Rattle.refusal.specs.Refusals.{number_of, layer_number, found_by, exception_of, names_overlay};
 
-// The layers that find a fault.
-const COMMAND_LAYER: u8 = 1;
-
-const RESOURCE_LAYER: u8 = 2;
-
-const TEXT_LAYER: u8 = 3;
+// What finds a fault.
+#[derive(Clone, Copy, Debug, PartialEq, Eq)]
+pub enum Layer {
+    Commands,
+    Overlays,
+    Text,
+}
 
 // The grounds, each with its number.
-#[derive(Clone, Copy)]
+#[derive(Clone, Copy, Debug, PartialEq, Eq)]
 pub enum Refusal {
     // Fewer than five bytes, or fewer than the length tells.
     Incomplete,
@@ -60,20 +61,40 @@ pub enum Refusal {
     ReplyPending,
 }
 
-// A refusal that the host is told of, with what was at hand when it came about; what is absent is 0.
-#[derive(Clone, Copy)]
-pub struct Fault {
-    pub refusal: Refusal,
+// Where in the host's commands a fault was found.
+#[derive(Clone, Copy, Debug, Default, PartialEq, Eq)]
+pub struct Place {
     // The code of the host's command.
     pub host: u16,
     // The code of the innermost command.
     pub command: u16,
     // Where in its data.
     pub offset: u16,
+}
+
+// A refusal that the host is told of, with what was at hand when it came about.
+#[derive(Clone, Copy, Debug, PartialEq, Eq)]
+pub struct Fault {
+    pub refusal: Refusal,
+    // None where no command is to blame.
+    pub place: Option<Place>,
     // The overlay's ID.
-    pub overlay: u16,
+    pub overlay: Option<u16>,
     // The ID of the page then open.
-    pub page: u32,
+    pub page: Option<u32>,
+}
+
+impl From<Layer> for u8 {
+    ghost from_gives = { λ layer number. number ≡ layer_number layer };
+
+    // Sense byte 8.
+    fn from(layer: Layer) -> u8 {
+        match layer {
+            Layer::Commands => 1,
+            Layer::Overlays => 2,
+            Layer::Text => 3,
+        }
+    }
 }
 
 impl Refusal {
@@ -106,19 +127,19 @@ impl Refusal {
     }
 
     // The layer that found it.
-    pub fn layer(self) -> u8
-        ensures { result ≡ layer_of self }
+    pub fn layer(self) -> Layer
+        ensures { result ≡ found_by self }
     {
         match self {
             Refusal::ControlLength | Refusal::BadControl | Refusal::Outside | Refusal::MarksFull =>
-                TEXT_LAYER,
+                Layer::Text,
             Refusal::IdOutOfRange
             | Refusal::AlreadyStored
             | Refusal::NotStored
             | Refusal::IncludesItself
             | Refusal::TooDeep
-            | Refusal::StoreFull => RESOURCE_LAYER,
-            _ => COMMAND_LAYER,
+            | Refusal::StoreFull => Layer::Overlays,
+            _ => Layer::Commands,
         }
     }
 

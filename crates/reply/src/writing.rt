@@ -4,19 +4,38 @@ ghost use Rattle.reply.specs.Replies.{ack, nack, written};
 ghost use Rattle.spool.specs.Spools.{told};
 
 use crate::bytes::{heading_of, sense_of};
-use command::Fault;
+use refusal::Fault;
 use spool::Counters;
+
+// A negative reply: its heading, then its sense bytes.
+fn negative(counters: Counters, fault: Fault) -> [u8; 40]
+    ensures { result ≡ nack fault (told counters) }
+{
+    let mut reply = [0; 40];
+    let (heading, sense) = reply.split_at_mut(16);
+    heading.copy_from_slice(&heading_of(40, 0x80, counters));
+    sense.copy_from_slice(&sense_of(fault));
+    reply
+}
+
+// Writes a reply and tells its length: 0 where the area is too short for it.
+fn write<const N: usize>(area: &mut [u8], reply: &[u8; N]) -> usize
+    ensures length { result ≡ (if nat_le N (length area.old) then N else 0) }
+    ensures area { area.new ≡ written reply.now area.old }
+{
+    let Some(front) = area.first_chunk_mut::<N>() else {
+        return 0;
+    };
+    *front = *reply;
+    N
+}
 
 // Writes an acknowledgement and tells its length: 0 where the area is too short for it.
 pub fn acknowledge(area: &mut [u8], counters: Counters) -> usize
     ensures length { result ≡ (if nat_le 16 (length area.old) then 16 else 0) }
     ensures area { area.new ≡ written (ack (told counters)) area.old }
 {
-    if area.len() < 16 {
-        return 0;
-    }
-    area[0..16].copy_from_slice(&heading_of(16, 0x00, counters));
-    16
+    write(area, &heading_of(16, 0x00, counters))
 }
 
 // Writes a negative reply and tells its length: 0 where the area is too short for it.
@@ -24,10 +43,5 @@ pub fn refuse(area: &mut [u8], counters: Counters, fault: Fault) -> usize
     ensures length { result ≡ (if nat_le 40 (length area.old) then 40 else 0) }
     ensures area { area.new ≡ written (nack fault (told counters)) area.old }
 {
-    if area.len() < 40 {
-        return 0;
-    }
-    area[0..16].copy_from_slice(&heading_of(40, 0x80, counters));
-    area[16..40].copy_from_slice(&sense_of(fault));
-    40
+    write(area, &negative(counters, fault))
 }

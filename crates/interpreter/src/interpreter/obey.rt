@@ -1,53 +1,33 @@
 // What a command does in the state that it meets.
 ghost use Rattle.std.specs.Prelude.{◌≡◌};
 ghost use Rattle.interpreter.specs.Machines.{machine_of};
-ghost use Rattle.interpreter.specs.Performing.{perform, end_page, load_copies, refusal_for, Leaves};
+ghost use Rattle.interpreter.specs.Performing.{perform, end_page, load_copies, Leaves};
 ghost use Rattle.interpreter.specs.Taking.{interpreted};
 ghost use Rattle.spool.specs.Spooled.{refusal_of};
-ghost use Rattle.spool.specs.Spools.{spool_of};
 
 use super::Interpreter;
 use command::{Command, Header, Refusal, State, decode};
-use spool::{Copies, NotReceived, Spool};
-
-fn refusal_for(e: NotReceived) -> Refusal
-    ensures { result ≡ refusal_for e }
-{
-    match e {
-        NotReceived::SixteenWait => Refusal::SixteenWait,
-        NotReceived::PagesSpent => Refusal::PagesSpent,
-        NotReceived::CopiesSpent => Refusal::CopiesSpent,
-    }
-}
+use spool::Copies;
 
 impl Interpreter {
-    fn end_page(&mut self, spool: &mut Spool, page: u32) -> Result<(), Refusal>
-        ensures { Leaves (end_page (refusal_of self.old.copies.count (spool_of spool.old)) page (machine_of self.old spool.old)) (machine_of self.old spool.old) (machine_of self.new spool.new) result }
+    fn end_page(&mut self, page: u32) -> Result<(), Refusal>
+        ensures { Leaves (end_page (refusal_of self.old.copies self.old.spool) page (machine_of self.old)) (machine_of self.old) (machine_of self.new) result }
     {
-        match spool.receive(page, self.copies) {
-            Ok(()) => {
-                self.state = State::Home;
-                Ok(())
-            }
-            Err(e) => Err(refusal_for(e)),
-        }
+        self.spool.receive(page, self.copies)?;
+        self.state = State::Home;
+        Ok(())
     }
 
-    fn load_copies(&mut self, spool: &Spool, count: u8) -> Result<(), Refusal>
-        ensures { Leaves (load_copies count (machine_of self.old spool.now)) (machine_of self.old spool.now) (machine_of self.new spool.now) result }
+    fn load_copies(&mut self, count: u8) -> Result<(), Refusal>
+        ensures { Leaves (load_copies count (machine_of self.old)) (machine_of self.old) (machine_of self.new) result }
     {
-        match Copies::new(count) {
-            Some(copies) => {
-                self.copies = copies;
-                Ok(())
-            }
-            None => Err(Refusal::NotAccepted),
-        }
+        self.copies = Copies::new(count).ok_or(Refusal::NotAccepted)?;
+        Ok(())
     }
 
     // Each command in each state.
-    fn obey(&mut self, spool: &mut Spool, command: Command) -> Result<(), Refusal>
-        ensures { Leaves (perform command (machine_of self.old spool.old)) (machine_of self.old spool.old) (machine_of self.new spool.new) result }
+    fn obey(&mut self, command: Command) -> Result<(), Refusal>
+        ensures { Leaves (perform command (machine_of self.old)) (machine_of self.old) (machine_of self.new) result }
     {
         match (self.state, command) {
             (State::Home, Command::BeginPage(page)) => {
@@ -55,8 +35,8 @@ impl Interpreter {
                 self.marks = 0;
                 Ok(())
             }
-            (State::Home, Command::LoadCopyControl(count)) => self.load_copies(spool, count),
-            (State::Page(page), Command::EndPage) => self.end_page(spool, page),
+            (State::Home, Command::LoadCopyControl(count)) => self.load_copies(count),
+            (State::Page(page), Command::EndPage) => self.end_page(page),
             (_, Command::NoOperation) => Ok(()),
             (_, Command::SetHomeState) => {
                 self.state = State::Home;
@@ -64,7 +44,7 @@ impl Interpreter {
             }
             (_, Command::DiscardBufferedData) => {
                 self.state = State::Home;
-                spool.discard();
+                self.spool.discard();
                 Ok(())
             }
             (State::Home, Command::EndPage) => Err(Refusal::NotAllowed),
@@ -74,15 +54,10 @@ impl Interpreter {
     }
 
     // A command whose length is right: its code, state, data length and flag are checked, and it is obeyed.
-    pub(super) fn interpret(
-        &mut self,
-        spool: &mut Spool,
-        header: Header,
-        data: &[u8],
-    ) -> Result<(), Refusal>
-        ensures { Leaves (interpreted header «data».now (machine_of self.old spool.old)) (machine_of self.old spool.old) (machine_of self.new spool.new) result }
+    pub(super) fn interpret(&mut self, header: Header, data: &[u8]) -> Result<(), Refusal>
+        ensures { Leaves (interpreted header «data».now (machine_of self.old)) (machine_of self.old) (machine_of self.new) result }
     {
         let command = decode(self.state, header, data)?;
-        self.obey(spool, command)
+        self.obey(command)
     }
 }

@@ -11,7 +11,7 @@ ghost use Rattle.spool.specs.Views.{flow_of};
 use super::Printer;
 use engine::Engine;
 use interpreter::{Interpreter, Taken};
-use spool::{Counters, Spool, Turned};
+use spool::{Counters, Turned};
 use text::Mark;
 
 impl<E: Engine> Printer<E> {
@@ -24,7 +24,6 @@ impl<E: Engine> Printer<E> {
         let _ = engine.purge();
         Printer {
             engine,
-            spool: Spool::new(),
             interpreter: Interpreter::new(),
         }
     }
@@ -78,7 +77,7 @@ impl<E: Engine> Printer<E> {
         ensures told { told result ≡ numbers_of (end_of E.Engine self.now).machine.spool }
         ensures law { Keeps E.Engine self.now self.now (after_counters result) }
     {
-        self.spool.counters()
+        self.interpreter.spool.counters()
     }
 
     // How many sheets are owed: those in the path and the waiting copies.

@@ -2,11 +2,10 @@
 ghost use Rattle.std.specs.Prelude.{◌≡◌, ◌≤◌, length};
 ghost use Rattle.interpreter.specs.Machines.{machine_of};
 ghost use Rattle.interpreter.specs.Taking.{taking, take_of};
-ghost use Rattle.printer.specs.Ends.{jammed, view_of};
+ghost use Rattle.printer.specs.Ends.{jammed, turned, turn_told};
 ghost use Rattle.printer.specs.Printers.{end_of};
+ghost use Rattle.spool.specs.Kept.{Whole};
 ghost use Rattle.spool.specs.Spooled.{unfed_in};
-ghost use Rattle.spool.specs.Views.{advance_v, feeds_v, turn_v};
-ghost use Rattle.engine.specs.Engines.{advanced};
 
 use super::Printer;
 use crate::feeding::{advance_once, feed_next};
@@ -18,20 +17,22 @@ impl<E: Engine> Printer<E> {
     // A command, with the reply area.
     pub(super) fn carry_out(&mut self, bytes: &[u8], reply: &mut [u8]) -> Taken
         ensures engine { self.new.engine ≡ self.old.engine }
-        ensures took { taking (machine_of self.new.interpreter self.new.spool) reply.new result ≡ take_of bytes.now (machine_of self.old.interpreter self.old.spool) reply.old }
+        ensures took { taking (machine_of self.new.interpreter) reply.new result ≡ take_of bytes.now (machine_of self.old.interpreter) reply.old }
+        ensures whole { Whole self.old.interpreter.spool }
     {
-        self.interpreter.take(&mut self.spool, bytes, reply)
+        self.interpreter.spool.kept();
+        self.interpreter.take(bytes, reply)
     }
 
     // One advance, then one feed.
     pub(super) fn turn_once(&mut self) -> Turned
-        ensures advanced { result.advanced ≡ advanced (end_of E.Engine self.old).paper }
-        ensures fed { result.fed ≡ feeds_v E.K (advance_v (view_of (end_of E.Engine self.old))) }
-        ensures view { view_of (end_of E.Engine self.new) ≡ turn_v E.K (view_of (end_of E.Engine self.old)) }
-        ensures interpreter { self.new.interpreter ≡ self.old.interpreter }
+        ensures told { result ≡ turn_told E.K (end_of E.Engine self.old) }
+        ensures end { end_of E.Engine self.new ≡ turned E.K (end_of E.Engine self.old) }
+        ensures whole { Whole self.old.interpreter.spool }
     {
-        let advanced = advance_once(&mut self.engine, &mut self.spool);
-        let fed = feed_next(&mut self.engine, &mut self.spool);
+        self.interpreter.spool.kept();
+        let advanced = advance_once(&mut self.engine, &mut self.interpreter.spool);
+        let fed = feed_next(&mut self.engine, &mut self.interpreter.spool);
         Turned { advanced, fed }
     }
 
@@ -40,7 +41,7 @@ impl<E: Engine> Printer<E> {
         ensures { end_of E.Engine self.new ≡ jammed (end_of E.Engine self.old) }
     {
         let _ = self.engine.purge();
-        self.interpreter.jam(&mut self.spool);
+        self.interpreter.jam();
     }
 
     // The sheets in the path, and the waiting copies.
@@ -49,7 +50,7 @@ impl<E: Engine> Printer<E> {
         ensures waiting { result.1 ≡ unfed_in (end_of E.Engine self.now).machine.spool.waiting }
         ensures few { result.1 ≤ 4080 }
     {
-        (self.engine.path_count(), self.spool.unfed())
+        (self.engine.path_count(), self.interpreter.spool.unfed())
     }
 
     pub(super) fn release(self) -> E
@@ -57,7 +58,6 @@ impl<E: Engine> Printer<E> {
     {
         let Printer {
             engine,
-            spool: _,
             interpreter: _,
         } = self;
         engine

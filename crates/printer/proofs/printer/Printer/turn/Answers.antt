@@ -1,15 +1,13 @@
 use Rattle.std.proofs.Common.{◌≡◌, ap, ◌∙◌}
-use Rattle.interpreter.specs.declared.interpreter.Interpreter.{Interpreter}
-use Rattle.interpreter.specs.Machines.{machine_of, open_page}
+use Rattle.interpreter.specs.Machines.{open_page}
 use Rattle.interpreter.specs.Takes.{meaning}
-use Rattle.printer.specs.Ends.{view_of, with_view, station_of}
+use Rattle.printer.specs.Ends.{PrinterEnd, view_of, station_of}
 use Rattle.printer.specs.Printers.{end_of}
-use Rattle.spool.specs.Views.{View, flow_of, turn_v}
+use Rattle.spool.specs.Views.{flow_of, turn_v}
+use Rattle.spool.specs.declared.page.Turned.{Turned}
 use Rattle.spool.proofs.Calls.{turn_law}
 use Rattle.spool.proofs.Flowing.{flow_turn}
 use Rattle.spool.proofs.Seen.{turned_so}
-use Rattle.spool.proofs.Waiting.{whole_spool}
-use Rattle.printer.proofs.Ends.{told_same}
 use Rattle.printer.proofs.printer.Printer.turn.Goals as goal
 
 pub returns : goal.returns
@@ -20,14 +18,14 @@ returns g c =
     let sound = m.sound p.engine in
     let t = c.turn_once.ensures in
     let v = view_of (end_of m p) in
-    let now : view_of (end_of m q) ≡ turn_v m.K v = t.view in
-    let same : q.interpreter ≡ p.interpreter = t.interpreter in
+    let now : view_of (end_of m q) ≡ turn_v m.K v = ap view_of t.end in
+    let advanced = ap (λ (r : Turned). r.advanced) t.told in
+    let fed = ap (λ (r : Turned). r.fed) t.told in
     let w = station_of (end_of m p) in
-    let kept = whole_spool p.spool in
     record {
-      told = told_same _ _ _ _ t.advanced t.fed;
-      end = ap (λ (i : Interpreter). with_view (view_of (end_of m q)) (record { paper = (end_of m p).paper; machine = machine_of i p.spool })) same ∙ ap (λ (x : View). with_view x (end_of m p)) now;
-      answer = λ run s. turned_so meaning m.K sound.few run w kept s _ t.advanced t.fed;
-      flow = λ run s. ap flow_of now ∙ flow_turn m.K sound.few v s.holds.known kept.unfed;
-      law = λ run s. turn_law meaning m.K sound.some sound.few run w kept s (station_of (end_of m q)) now _ t.advanced t.fed (ap (λ (i : Interpreter). open_page i.state) same) (ap (λ (i : Interpreter). i.copies.count) same);
+      told = t.told;
+      end = t.end;
+      answer = λ run s. turned_so meaning m.K sound.few run w t.whole s _ advanced fed;
+      flow = λ run s. ap flow_of now ∙ flow_turn m.K sound.few v s.holds.known t.whole.unfed;
+      law = λ run s. turn_law meaning m.K sound.some sound.few run w t.whole s (station_of (end_of m q)) now _ advanced fed (ap (λ (e : PrinterEnd). open_page e.machine.state) t.end) (ap (λ (e : PrinterEnd). e.machine.copies) t.end);
     }
