@@ -1,14 +1,15 @@
 -- Nothing beyond the bytes that are then kept is written.
-use Rattle.std.proofs.Common.{◌≡◌, ℕ, ◌+◌, ◌-◌, ◌≤◌, Bool, true, false, cond, eqb, ltb, leb, List, ◌++◌, length, take, drop, Some, None, Option, sym, refl, ap, ◌∙◌, subst, append_assoc, arith, length-append}
+use Rattle.std.proofs.Common.{◌≡◌, ℕ, ◌+◌, ◌-◌, ◌≤◌, true, eqb, ltb, leb, List, ◌++◌, length, take, drop, Some, None, Option, sym, refl, ap, ◌∙◌, subst, append_assoc, arith, length-append}
 use Rattle.std.specs.List.{remove}
 use Rattle.std.proofs.lemmas.List.{drop_at, drop-drop, length-take-le}
 use Rattle.std.proofs.lemmas.Bool.{cond_both, leb-true}
+use Rattle.std.proofs.lemmas.Bool.Decides.{nat_tests}
 use Rattle.queue.specs.Queues.{span_in, span_out}
 use Rattle.queue.proofs.Spans.{span_behind}
 use Rattle.store.specs.declared.entry.Found.{Found}
 use Rattle.store.specs.Entries.{sizes, found_in}
 use Rattle.store.specs.Stores.{Store, kept, Held, written, storing, closed_up, deleting_at, deleting}
-use Rattle.store.proofs.Sizes.{stands, size_within, size_out}
+use Rattle.store.proofs.Searching.{size_within, size_out}
 
 abbrev Beyond : List ℕ → Held → Type 0
 Beyond m h = drop (kept h.store) h.memory ≡ drop (kept h.store) m
@@ -35,18 +36,14 @@ span_beyond m n k f inside e =
     fits : span_in m n f.start f.size ≡ true → drop k (span_out m n f.start f.size) ≡ drop k m
     fits t =
         let j : n - f.size ≡ k = omega arith in
-        subst (λ i. drop i (span_out m n f.start f.size) ≡ drop i m) j (span_behind m n f.start f.size inside (long (leb (f.start + f.size) n) t))
-      where
-        long : (b : Bool) → cond b (leb n (length m)) false ≡ true → n ≤ length m
-        long true t = leb-true n (length m) t
-        long false t = absurd cc
+        let le : n ≤ length m = grind (arith, nat_tests) in
+        subst (λ i. drop i (span_out m n f.start f.size) ≡ drop i m) j (span_behind m n f.start f.size inside le)
 
 deleting_at_law : (id : ℕ) (s : Store) (m : List ℕ) (o : Option Found) → found_in s.entries id ≡ o → Beyond m (deleting_at o s m)
 deleting_at_law id s m None e = refl
 deleting_at_law id s m (Some f) e =
-    let h = stands s.entries id f e in
-    let a = size_within s.entries id f h in
-    let b = size_out s.entries id f h in
+    let a = size_within s.entries id f e in
+    let b = size_out s.entries id f e in
     span_beyond m (kept s) (sizes (remove s.entries f.at) + s.begun) f (omega arith) (omega arith)
 
 pub deleting_beyond : (id : ℕ) (s : Store) (m : List ℕ) → Beyond m (deleting id s m)

@@ -11,7 +11,7 @@ use Rattle.store.specs.Entries.{entry, sizes, found_in}
 use Rattle.store.specs.Stores.{Store, store, kept, Held, held, closed_up, deleting_at, deleting}
 use Rattle.store.specs.Contents.{Overlay, overlay, overlays_in, bytes_in, Contents, content, contents}
 use Rattle.store.specs.Laws.{removed, deleted}
-use Rattle.store.proofs.Sizes.{Stands, stands, size_within, size_out}
+use Rattle.store.proofs.Searching.{Stands, stands, size_within, size_out}
 use Rattle.store.proofs.Holding.{contents_front, contents_split}
 use Rattle.store.proofs.Onces.{none_first}
 use Rattle.store.proofs.Grounds.{stored_not}
@@ -24,7 +24,10 @@ removed_middle id (x ∷ xs) o ys none same =
     cond-false _ _ _ h.0 ∙ ap (λ l. x ∷ l) (removed_middle id xs o ys h.1 same)
 
 -- the parts of the memory: before the overlay, its own, and behind it
-module _ (s : Store) (m : List ℕ) (id : ℕ) (f : Found) (h : Stands 0 0 s.entries id f) (room : kept s ≤ length m) where
+module _ (s : Store) (m : List ℕ) (id : ℕ) (f : Found) (e : found_in s.entries id ≡ Some f) (room : kept s ≤ length m) where
+  h : Stands s.entries id f
+  h = stands s.entries id f e
+
   abbrev whole : List ℕ
   whole = take (kept s) m
 
@@ -38,16 +41,16 @@ module _ (s : Store) (m : List ℕ) (id : ℕ) (f : Found) (h : Stands 0 0 s.ent
   back = drop (f.start + f.size) whole
 
   abbrev before : List Entry
-  before = take h.k s.entries
+  before = take f.at s.entries
 
   abbrev it : Entry
-  it = get_or s.entries h.k (entry 0 0)
+  it = get_or s.entries f.at (entry 0 0)
 
   abbrev behind : List Entry
-  behind = drop (suc h.k) s.entries
+  behind = drop (suc f.at) s.entries
 
   fits : f.start + f.size ≤ kept s
-  fits = omega (arith, size_within s.entries id f h)
+  fits = omega (arith, size_within s.entries id f e)
 
   in_parts : whole ≡ front ++ (own ++ back)
   in_parts =
@@ -56,18 +59,18 @@ module _ (s : Store) (m : List ℕ) (id : ℕ) (f : Found) (h : Stands 0 0 s.ent
       (sym (take-append-drop f.size (drop f.start (take (kept s) m))) ∙ ap (λ l. take f.size (drop f.start (take (kept s) m)) ++ l) (drop-drop f.size f.start (take (kept s) m)))
 
   in_entries : s.entries ≡ before ++ (it ∷ behind)
-  in_entries = sym (take-append-drop h.k s.entries) ∙ ap (λ l. take h.k s.entries ++ l) (drop-cons s.entries h.k (entry 0 0) h.inside)
+  in_entries = sym (take-append-drop f.at s.entries) ∙ ap (λ l. take f.at s.entries ++ l) (drop-cons s.entries f.at (entry 0 0) h.inside)
 
   front_long : length front ≡ sizes before
   front_long =
       let a : length (take (kept s) m) ≡ kept s = length-take-le (kept s) m room in
-      length-take-le f.start (take (kept s) m) (omega (arith, fits)) ∙ h.start ∙ (omega arith)
+      length-take-le f.start (take (kept s) m) (omega (arith, fits)) ∙ h.start
 
   own_long : length own ≡ sizes (it ∷ [])
   own_long =
       let a : length (take (kept s) m) ≡ kept s = length-take-le (kept s) m room in
       let b = length-drop f.start (take (kept s) m) in
-      length-take-le f.size (drop f.start (take (kept s) m)) (omega (arith, fits)) ∙ h.size (entry 0 0) ∙ (omega arith)
+      length-take-le f.size (drop f.start (take (kept s) m)) (omega (arith, fits)) ∙ h.size ∙ (omega arith)
 
   -- what was there
   was : contents m s ≡ content (overlays_in before front ++ (overlay it.id (take it.size own) ∷ overlays_in behind back)) (take s.begun (drop (sizes behind) back))
@@ -83,21 +86,20 @@ module _ (s : Store) (m : List ℕ) (id : ℕ) (f : Found) (h : Stands 0 0 s.ent
   is =
       let t = store (remove s.entries f.at) s.begun in
       let n = kept s - f.size in
-      let less : kept t ≤ n = omega (arith, size_out s.entries id f h) in
-      let at : f.at ≡ h.k = omega (arith, h.at) in
+      let less : kept t ≤ n = omega (arith, size_out s.entries id f e) in
       let cut : take n (closed_up m (kept s) f) ≡ take f.start (take (kept s) m) ++ drop (f.start + f.size) (take (kept s) m) =
       ap (take n) (cond-true _ _ _ (span_is m (kept s) f.start f.size fits room))
       ∙ span_queue m (kept s) f.start f.size fits room
       ∙ ap (λ l. l ++ drop (f.start + f.size) (take (kept s) m)) (sym (take-take f.start (kept s) m (omega (arith, fits)))) in
       sym (contents_front t (closed_up m (kept s) f) n less)
-      ∙ (λ i. contents (cut i) (store (remove s.entries (at i)) s.begun))
+      ∙ (λ i. contents (cut i) (store (remove s.entries f.at) s.begun))
       ∙ contents_split before behind front back s.begun front_long
 
   pub taken_away : contents (closed_up m (kept s) f) (store (remove s.entries f.at) s.begun) ≡ content (removed id (contents m s).stored) (contents m s).begun
   taken_away =
       let none : bytes_in (overlays_in before front) id ≡ None = stored_not before id (ap is_some h.before) front in
       is
-      ∙ ap (λ os. content os (take s.begun (drop (sizes behind) back))) (sym (removed_middle id (overlays_in before front) (overlay it.id (take it.size own)) (overlays_in behind back) none (h.here (entry 0 0))))
+      ∙ ap (λ os. content os (take s.begun (drop (sizes behind) back))) (sym (removed_middle id (overlays_in before front) (overlay it.id (take it.size own)) (overlays_in behind back) none h.here))
       ∙ ap (λ (c : Contents). content (removed id c.stored) c.begun) (sym was)
 
 abbrev Deleted : ℕ → Store → List ℕ → Held → Type 0
@@ -105,7 +107,7 @@ Deleted id s m o = contents o.memory o.store ≡ cond (is_ok o.result) (deleted 
 
 deletes_found : (id : ℕ) (s : Store) (m : List ℕ) → kept s ≤ length m → eqb id 0 ≡ false → (o : Option Found) → found_in s.entries id ≡ o → Deleted id s m (deleting_at o s m)
 deletes_found id s m room ne None e = refl
-deletes_found id s m room ne (Some f) e = taken_away s m id f (stands s.entries id f e) room ∙ sym (cond-false _ _ _ ne)
+deletes_found id s m room ne (Some f) e = taken_away s m id f e room ∙ sym (cond-false _ _ _ ne)
 
 pub deletes : (id : ℕ) (s t : Store) (m n : List ℕ) (r : Result (Unit {0}) Refusal) → kept s ≤ length m → held t n r ≡ deleting id s m → contents n t ≡ cond (is_ok r) (deleted id (contents m s)) (contents m s)
 deletes id s t m n r room e =

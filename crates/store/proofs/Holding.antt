@@ -7,7 +7,7 @@ use Rattle.store.specs.Entries.{sizes}
 use Rattle.store.specs.Stores.{Store, store, kept}
 use Rattle.store.specs.Contents.{overlay, overlays_in, content, contents}
 use Rattle.store.specs.Laws.{stored_bytes, Gapless}
-use Rattle.store.proofs.Sizes.{size_of}
+use Rattle.store.proofs.Searching.{size_of}
 
 -- one list of entries behind another
 pub overlays_append : (xs ys : List Entry) (m : List ℕ) → overlays_in (xs ++ ys) m ≡ overlays_in xs m ++ overlays_in ys (drop (sizes xs) m)

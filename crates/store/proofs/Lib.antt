@@ -1,4 +1,3 @@
-pub mod Sizes
 pub mod Searching
 pub mod Parts
 pub mod Holding

@@ -1,6 +1,6 @@
 -- No two overlays have one ID.
 use Rattle.std.proofs.Common.{◌≡◌, ℕ, false, cond, eqb, List, [], ◌∷◌, ◌++◌, Some, None, sym, refl, ap, ◌∙◌, subst, arith}
-use Rattle.std.proofs.lemmas.Bool.{cond_both, cond-false, eqb-true, eqb-false, ne_eqb}
+use Rattle.std.proofs.lemmas.Bool.{cond_both, cond-false, eqb-true, ne_eqb}
 use Rattle.std.proofs.lemmas.Bool.Decides.{nat_tests}
 use Rattle.store.specs.Contents.{Overlay, overlay, bytes_in, Contents}
 use Rattle.store.specs.Laws.{removed, Once, OnceLaws}
@@ -16,7 +16,7 @@ none_push (x ∷ xs) o k e ne =
     cond-false _ _ _ h.0 ∙ none_push xs o k h.1 ne
 
 eqb_other : (a b : ℕ) → eqb a b ≡ false → eqb b a ≡ false
-eqb_other a b e = ne_eqb b a (λ q. eqb-false a b e (sym q))
+eqb_other a b e = grind (arith, nat_tests)
 
 once_push : (os : List Overlay) (o : Overlay) → Once os → bytes_in os o.id ≡ None → Once (os ++ (o ∷ []))
 once_push [] o u e = (refl, tt)

@@ -1,13 +1,17 @@
--- A search through the table: what it finds is at the first entry with the ID.
-use Rattle.std.proofs.Common.{◌≡◌, ℕ, zero, suc, ◌+◌, ◌<◌, ◌≤◌, ◌^◌, Bool, true, false, eqb, List, [], ◌∷◌, length, get_or, map, sum, take, Some, None, sym, refl, ◌∙◌, arith}
-use Rattle.std.specs.List.{position, position_or_len}
-use Rattle.std.proofs.lemmas.Bool.{cond-true, cond-false}
+-- What a search through the table finds: the first entry with the ID.
+use Rattle.std.proofs.Common.{◌≡◌, ℕ, zero, suc, ◌+◌, ◌<◌, ◌≤◌, ◌^◌, Bool, true, false, eqb, List, [], ◌∷◌, length, get_or, map, sum, take, Some, None, Option, sym, refl, ap, ◌∙◌, subst, arith}
+use Rattle.std.specs.List.{position, position_or_len, remove}
+use Rattle.std.proofs.lemmas.List.{length-take-le, get_or-take}
+use Rattle.std.proofs.lemmas.Bool.{cond-true, cond-false, eqb-true}
 use Rattle.std.proofs.lemmas.Bool.Decides.{nat_tests}
-use Rattle.std.proofs.lemmas.List.Sums.{sum_by-cons, sum_by-take-le, sum-map, fails_before_first}
+use Rattle.std.proofs.lemmas.List.Sums.{sum_by-cons, sum_by-take-le, sum_by_more_le, sum_by-remove, sum-map, fails_before_first}
 use Rattle.std.proofs.lemmas.List.Quantifiers.{position-Some}
 use Rattle.store.specs.declared.entry.Entry.{Entry}
-use Rattle.store.proofs.Sizes.{size_of}
+use Rattle.store.specs.declared.entry.Found.{Found}
 use Rattle.store.specs.Entries.{entry, found, sizes, found_from, found_in}
+
+abbrev pub size_of : Entry → ℕ
+size_of e = e.size
 
 abbrev pub has_id : ℕ → Entry → Bool
 has_id id e = eqb e.id id
@@ -45,3 +49,36 @@ pub not_found_by : (es : List Entry) (id : ℕ) → position (has_id id) es ≡ 
 not_found_by es id e =
     let past : length es ≤ position_or_len (has_id id) es = grind (arith, nat_tests) in
     sym (not_found es 0 0 id (entry 0 0) (λ k l. fails_before_first (has_id id) es k (entry 0 0) (omega arith)))
+
+-- what was found is an entry of the table, and none before it has the ID
+pub record Stands (es : List Entry) (id : ℕ) (f : Found) : Type 0 where
+  pub inside : f.at < length es
+  pub start : f.start ≡ sizes (take f.at es)
+  pub size : f.size ≡ (get_or es f.at (entry 0 0)).size
+  pub here : (get_or es f.at (entry 0 0)).id ≡ id
+  pub before : found_in (take f.at es) id ≡ None
+
+pub stands : (es : List Entry) (id : ℕ) (f : Found) → found_in es id ≡ Some f → Stands es id f
+stands es id f e = go (position (has_id id) es) refl
+  where
+    go : (o : Option ℕ) → position (has_id id) es ≡ o → Stands es id f
+    go None p = let no : None ≡ Some f = not_found_by es id p ∙ e in absurd cc
+    go (Some at) p =
+        let h = position-Some (has_id id) es at (entry 0 0) p in
+        let yes = found_by es id at _ p (sym (sum-map size_of (take at es))) ∙ e in
+        let is : found at (sizes (take at es)) (get_or es at (entry 0 0)).size ≡ f = cc in
+        let long : length (take at es) ≡ at = length-take-le at es (omega (arith, h.0)) in
+        subst (Stands es id) is (record {
+          inside = h.0;
+          start = refl;
+          size = refl;
+          here = eqb-true _ _ h.1;
+          before = not_found (take at es) 0 0 id (entry 0 0) (λ k l. ap (has_id id) (get_or-take at es k (entry 0 0) (omega arith)) ∙ h.2 k (omega arith));
+        })
+
+module _ (es : List Entry) (id : ℕ) (f : Found) (e : found_in es id ≡ Some f) where
+  pub size_within : f.start + f.size ≤ sizes es
+  size_within = let h = stands es id f e in omega (arith, sum_by_more_le size_of es f.at (entry 0 0) h.inside)
+
+  pub size_out : sizes (remove es f.at) + f.size ≡ sizes es
+  size_out = let h = stands es id f e in ap (λ n. sizes (remove es f.at) + n) h.size ∙ sum_by-remove size_of es f.at (entry 0 0) h.inside

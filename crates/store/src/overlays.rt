@@ -1,6 +1,6 @@
-// The stored overlays. Their bytes lie in the caller's memory from its start on, one overlay behind the other,
-// and behind them the bytes of the overlay that is being sent. So where an overlay begins is a sum of sizes.
-// Clauses see the entries and how many bytes of the overlay that is being sent have come.
+// The stored overlays. Their bytes lie in the caller's memory, which is lent at each call, from its start on, one
+// overlay behind the other, and behind them the bytes of the overlay that is being sent. So where an overlay begins is
+// a sum of sizes. Clauses see the entries and how many bytes of the overlay that is being sent have come.
 use crate::entry::Entry;
 use queue::Queue;
 use std::marker::Model;
@@ -9,7 +9,8 @@ mod sending;
 mod stored;
 mod told;
 
-// The IDs of overlays run from 1 to this.
+// The IDs of overlays run from 1 to this. They are plain numbers, since a type of these IDs would serve `begin` alone:
+// `close` and `bytes_of` take any number, and to `delete` 0 stands for all.
 pub const LAST_ID: u16 = 127;
 
 // How many overlays can be stored.

@@ -10,7 +10,8 @@ use crate::entry::{Entry, Found};
 use queue::Queue;
 use refusal::Refusal;
 
-// The bytes that were found leave the memory, of which `kept` bytes are in use: those behind them move down.
+// The bytes that were found leave the memory, of which `kept` bytes are in use: those behind them move down. A memory
+// that has not all that are in use stays as it is.
 fn close_up(memory: &mut [u8], kept: usize, found: Found)
     ensures { memory.new ≡ closed_up memory.old kept found }
 {

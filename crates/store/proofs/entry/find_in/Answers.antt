@@ -2,8 +2,7 @@ use Rattle.std.proofs.Common.{take, sym, ◌∙◌, rules, tests}
 use Rattle.std.proofs.lemmas.Iterator.{YieldsList-from_slice, YieldsList-from_map}
 use Rattle.std.proofs.lemmas.Iterator.Search.{position_from_yields_List}
 use Rattle.std.proofs.lemmas.Iterator.Consumers.{sum_from_yields_List, fits_from_yields_list}
-use Rattle.store.proofs.Sizes.{size_of}
-use Rattle.store.proofs.Searching.{has_id, sum_fits, found_by, not_found_by}
+use Rattle.store.proofs.Searching.{size_of, has_id, sum_fits, found_by, not_found_by}
 use Rattle.store.proofs.entry.find_in.Goals as goal
 
 pub returns-in_err-at : goal.returns-in_err-at

@@ -5,7 +5,7 @@ use Rattle.store.specs.Stores.{store}
 use Rattle.store.proofs.Changing.{ends_pushed}
 use Rattle.store.proofs.Holding.{gapless}
 use Rattle.store.proofs.Sessions.{session}
-use Rattle.store.proofs.Sizes.{size_of}
+use Rattle.store.proofs.Searching.{size_of}
 use Rattle.store.proofs.overlays.Overlays.close.Goals as goal
 
 pub invariant_of-self : goal.invariant_of-self
