@@ -17,7 +17,7 @@ fn take<E: Engine, R: Read>(
     let line = lines::take_line(
         player.heap,
         taken.used,
-        taken.outcome.number(),
+        taken.number(),
         size,
         taken.marks,
     )?;

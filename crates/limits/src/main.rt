@@ -39,7 +39,7 @@ impl Session {
         let _ = self.take(&begin_page(id));
         let t = self.take(&end_page());
         let size = t.reply.min(40);
-        let told = lines::take_line(rt.alloc(), t.used, t.outcome.number(), size, t.marks)?;
+        let told = lines::take_line(rt.alloc(), t.used, t.number(), size, t.marks)?;
         rt.print(told.as_str())?;
         let bytes = lines::hex_line(rt.alloc(), "reply", &self.reply[0..size])?;
         rt.print(bytes.as_str())

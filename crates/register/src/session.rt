@@ -34,7 +34,7 @@ impl<E: Engine + Drop> Session<E> {
         let taken = self
             .printer
             .take(bytes, &mut self.reply, &mut marks, &mut memory);
-        let number = taken.outcome.number();
+        let number = taken.number();
         match number {
             0 => {}
             21 => note(
