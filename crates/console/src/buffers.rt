@@ -2,17 +2,37 @@
 use engine::Engine;
 use interpreter::Taken;
 use printer::Printer;
+use script::Areas;
 use std::alloc::{AllocError, Global};
 use text::Mark;
 
+// A buffer, of which a front is handed out.
+#[derive(Drop)]
+struct Area<T> {
+    items: Vec<T>,
+    size: usize,
+}
+
+impl<T: Copy> Area<T> {
+    // Handed out whole.
+    fn new(heap: Global, blank: T, size: usize) -> Result<Area<T>, AllocError> {
+        Ok(Area {
+            items: vec![in heap; blank; size]?,
+            size,
+        })
+    }
+
+    fn front(&mut self) -> &mut [T] {
+        let size = self.size.min(self.items.len());
+        &mut self.items[..size]
+    }
+}
+
 #[derive(Drop)]
 pub struct Buffers {
-    reply: Vec<u8>,
-    marks: Vec<Mark>,
-    memory: Vec<u8>,
-    reply_size: usize,
-    marks_size: usize,
-    memory_size: usize,
+    reply: Area<u8>,
+    marks: Area<Mark>,
+    memory: Area<u8>,
     // How many marks the latest take told.
     placed: usize,
 }
@@ -28,31 +48,25 @@ impl Buffers {
             second: 0,
         };
         Ok(Buffers {
-            reply: vec![in heap; 0u8; 64]?,
-            marks: vec![in heap; blank; 1000]?,
-            memory: vec![in heap; 0u8; 65536]?,
-            reply_size: 64,
-            marks_size: 1000,
-            memory_size: 65536,
+            reply: Area::new(heap, 0, 64)?,
+            marks: Area::new(heap, blank, 1000)?,
+            memory: Area::new(heap, 0, 65536)?,
             placed: 0,
         })
     }
 
-    pub(crate) fn resize(&mut self, reply: u32, marks: u32, memory: u32) {
-        self.reply_size = reply as usize;
-        self.marks_size = marks as usize;
-        self.memory_size = memory as usize;
+    pub(crate) fn resize(&mut self, areas: Areas) {
+        self.reply.size = areas.reply as usize;
+        self.marks.size = areas.marks as usize;
+        self.memory.size = areas.memory as usize;
     }
 
     pub(crate) fn take<E: Engine>(&mut self, printer: &mut Printer<E>, bytes: &[u8]) -> Taken {
-        let reply = self.reply_size.min(self.reply.len());
-        let marks = self.marks_size.min(self.marks.len());
-        let memory = self.memory_size.min(self.memory.len());
         let taken = printer.take(
             bytes,
-            &mut self.reply[0..reply],
-            &mut self.marks[0..marks],
-            &mut self.memory[0..memory],
+            self.reply.front(),
+            self.marks.front(),
+            self.memory.front(),
         );
         self.placed = taken.marks;
         taken
@@ -60,27 +74,26 @@ impl Buffers {
 
     // The marks of the open or latest page.
     pub(crate) fn placed(&self) -> &[Mark] {
-        let n = self.placed.min(self.marks.len());
-        &self.marks[0..n]
+        let n = self.placed.min(self.marks.items.len());
+        &self.marks.items[..n]
     }
 
     pub(crate) fn reply(&self, size: usize) -> &[u8] {
-        let n = size.min(self.reply.len());
-        &self.reply[0..n]
+        let n = size.min(self.reply.items.len());
+        &self.reply.items[..n]
     }
 
     pub(crate) fn memory(&self, at: u32, size: u32) -> &[u8] {
-        let start = (at as usize).min(self.memory.len());
-        let end = start.saturating_add(size as usize).min(self.memory.len());
-        &self.memory[start..end]
+        let memory = &self.memory.items;
+        let start = (at as usize).min(memory.len());
+        let end = start.saturating_add(size as usize).min(memory.len());
+        &memory[start..end]
     }
 
     pub(crate) fn poke(&mut self, at: u32, bytes: &[u8]) {
-        for (k, b) in bytes.iter().enumerate() {
-            let i = (at as usize).saturating_add(k);
-            if i < self.memory.len() {
-                self.memory[i] = *b;
-            }
+        let cells = self.memory.items.iter_mut().skip(at as usize);
+        for (cell, b) in cells.zip(bytes) {
+            *cell = *b;
         }
     }
 }

@@ -1,7 +1,7 @@
 // Makes one call and adds its answer.
 use crate::buffers::Buffers;
 use crate::player::Player;
-use engine::{Advanced, Engine};
+use engine::{Advanced, Engine, Tally};
 use printer::Printer;
 use script::Call;
 use std::io;
@@ -11,8 +11,9 @@ fn take<E: Engine, R: Read>(
     player: &mut Player<R>,
     printer: &mut Printer<E>,
     buffers: &mut Buffers,
+    bytes: &[u8],
 ) -> io::Result<()> {
-    let taken = buffers.take(printer, &player.data);
+    let taken = buffers.take(printer, bytes);
     let size = taken.reply;
     let line = lines::take_line(
         player.heap,
@@ -33,39 +34,27 @@ fn turn<E: Engine, R: Read>(player: &mut Player<R>, printer: &mut Printer<E>) ->
     match turned.advanced {
         Advanced::Stacked(s) => {
             let end = if turned.fed { " fed=1" } else { " fed=0" };
-            let line = lines::sheet_line(
-                player.heap,
-                "turn stacked ",
-                s.page,
-                s.copy,
-                s.last,
-                end,
-            )?;
+            let line = lines::sheet_line(player.heap, "turn stacked ", s, end)?;
             player.say(&line)
         }
-        Advanced::PathEmpty => player.say_number("turn path-empty fed=", turned.fed as u64),
-        Advanced::BinFull => player.say_number("turn bin-full fed=", turned.fed as u64),
+        Advanced::PathEmpty => player.say_number("turn path-empty fed=", u64::from(turned.fed)),
+        Advanced::BinFull => player.say_number("turn bin-full fed=", u64::from(turned.fed)),
     }
 }
 
-// So many turns; their answers are written as they grow.
-fn turns<E: Engine, R: Read>(
-    player: &mut Player<R>,
-    printer: &mut Printer<E>,
-    times: u32,
-) -> io::Result<()> {
-    for _ in 0..times {
-        turn(player, printer)?;
-        player.flush_much()?;
-    }
-    Ok(())
+// Pages and copies.
+fn counts(tally: Tally) -> (u64, u64) {
+    (u64::from(tally.pages.0), u64::from(tally.copies.0))
 }
 
 fn counters<E: Engine, R: Read>(player: &mut Player<R>, printer: &Printer<E>) -> io::Result<()> {
     let c = printer.counters();
-    let committed = (c.committed.pages.0 as u64, c.committed.copies.0 as u64);
-    let stacked = (c.stacked.pages.0 as u64, c.stacked.copies.0 as u64);
-    let line = lines::counters_line(player.heap, c.received.0 as u64, committed, stacked)?;
+    let line = lines::counters_line(
+        player.heap,
+        u64::from(c.received.0),
+        counts(c.committed),
+        counts(c.stacked),
+    )?;
     player.say(&line)
 }
 
@@ -75,11 +64,11 @@ fn marks<R: Read>(player: &mut Player<R>, buffers: &Buffers) -> io::Result<()> {
     for m in placed {
         let line = lines::mark_line(
             player.heap,
-            m.kind as u32,
-            m.i as i64,
-            m.b as i64,
-            m.first as i64,
-            m.second as i64,
+            u32::from(m.kind),
+            i64::from(m.i),
+            i64::from(m.b),
+            i64::from(m.first),
+            i64::from(m.second),
         )?;
         player.say(&line)?;
     }
@@ -90,11 +79,15 @@ pub(crate) fn perform<E: Engine, R: Read>(
     player: &mut Player<R>,
     printer: &mut Printer<E>,
     buffers: &mut Buffers,
-    call: Call,
+    call: Call<Vec<u8>>,
 ) -> io::Result<()> {
     match call {
-        Call::Take => take(player, printer, buffers)?,
-        Call::Turn(times) => turns(player, printer, times)?,
+        Call::Take(bytes) => take(player, printer, buffers, &bytes)?,
+        Call::Turn(times) => {
+            for _ in 0..times {
+                turn(player, printer)?;
+            }
+        }
         Call::Jam => {
             printer.jam();
             player.say("jam\n")?;
@@ -102,21 +95,21 @@ pub(crate) fn perform<E: Engine, R: Read>(
         Call::Counters => counters(player, printer)?,
         Call::Owed => player.say_number("owed ", printer.owed() as u64)?,
         Call::Marks => marks(player, buffers)?,
-        Call::Areas(reply, marks, memory) => {
-            buffers.resize(reply, marks, memory);
-            let line = lines::areas_line(player.heap, reply, marks, memory)?;
+        Call::Areas(areas) => {
+            buffers.resize(areas);
+            let line = lines::areas_line(player.heap, areas)?;
             player.say(&line)?;
         }
-        Call::Memory(at, size) => {
+        Call::Memory { at, size } => {
             let line = lines::memory_line(player.heap, at, buffers.memory(at, size))?;
             player.say(&line)?;
         }
-        Call::Poke(at) => {
-            buffers.poke(at, &player.data);
-            player.say_number("poke ", at as u64)?;
+        Call::Poke { at, bytes } => {
+            buffers.poke(at, &bytes);
+            player.say_number("poke ", u64::from(at))?;
         }
         Call::ReplyArea(size) => player.say_bytes("reply-area", buffers.reply(size as usize))?,
-        Call::Skip | Call::EngineTrack(_) | Call::EngineFile(_) | Call::End => {}
+        Call::Skip | Call::Engine { .. } | Call::End => {}
     }
     Ok(())
 }

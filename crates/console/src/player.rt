@@ -3,30 +3,26 @@ use crate::buffers::Buffers;
 use crate::calls::perform;
 use engine::Engine;
 use printer::Printer;
-use script::{Call, parse};
+use script::{Call, EngineKind, parse};
 use std::alloc::Global;
 use std::io;
-use std::io::{BufRead, BufReader, Read, Stdout, Write};
+use std::io::{BufRead, BufReader, BufWriter, Read, Stdout, Write};
 
 #[derive(Drop)]
 pub struct Player<R: Read> {
     input: BufReader<R>,
-    stdout: Stdout,
     line: Vec<u8>,
     // The number of the line, from 1.
     number: u64,
-    // The bytes that the line's hexadecimal word stands for.
-    pub data: Vec<u8>,
-    // Answers that are not written yet.
-    out: Vec<u8>,
+    // The answers; they wait until they are many, or a line has to be waited for.
+    out: BufWriter<Stdout>,
     pub heap: Global,
 }
 
-// How a session ended: the script asks for another engine, it ended the printer end, or it is over.
+// How a session ended: the script asks for an engine of so much room, it ended the printer end, or it is over.
 #[derive(Clone, Copy)]
 pub enum Next {
-    Track(u32),
-    File(u32),
+    Engine(EngineKind, u32),
     Nothing,
     End,
 }
@@ -35,11 +31,9 @@ impl<R: Read + Drop> Player<R> {
     pub(crate) fn new(rt: &HostRuntime, input: R) -> io::Result<Player<R>> {
         Ok(Player {
             input: BufReader::new(rt.alloc(), input)?,
-            stdout: rt.stdout(),
             line: Vec::new(rt.alloc()),
             number: 0,
-            data: Vec::new(rt.alloc()),
-            out: Vec::new(rt.alloc()),
+            out: BufWriter::with_capacity(rt.alloc(), 65536, rt.stdout())?,
             heap: rt.alloc(),
         })
     }
@@ -47,40 +41,33 @@ impl<R: Read + Drop> Player<R> {
 
 impl<R: Read> Player<R> {
     pub(crate) fn flush(&mut self) -> io::Result<()> {
-        self.stdout.write_all(&self.out)?;
-        self.out.clear();
-        Ok(())
+        self.out.flush()
     }
 
-    // Writes the answers where many wait.
-    pub(crate) fn flush_much(&mut self) -> io::Result<()> {
-        if self.out.len() > 65536 {
-            self.flush()?;
+    // The next call; None behind the last. A malformed line is told and passed.
+    fn next_call(&mut self) -> io::Result<Option<Call<Vec<u8>>>> {
+        // The library's lines would be read with no look at what waits, so that no answer could be written first.
+        for _ in 0..u64::MAX {
+            if self.input.buffer().is_empty() {
+                self.flush()?;
+            }
+            self.line.clear();
+            if self.input.read_until(b'\n', &mut self.line)? == 0 {
+                break;
+            }
+            self.number = self.number.wrapping_add(1);
+            let line = self.line.as_slice();
+            match parse(self.heap, line.strip_suffix(b"\n").unwrap_or(line))? {
+                Some(call) => return Ok(Some(call)),
+                None => self.wrong()?,
+            }
         }
-        Ok(())
-    }
-
-    // The next call; None for a malformed line. Answers are written before a line has to be waited for.
-    fn next_call(&mut self) -> io::Result<Option<Option<Call>>> {
-        if self.input.buffer().is_empty() {
-            self.flush()?;
-        }
-        self.flush_much()?;
-        self.line.clear();
-        if self.input.read_until(b'\n', &mut self.line)? == 0 {
-            return Ok(None);
-        }
-        if let Some(b'\n') = self.line.last() {
-            let _ = self.line.pop();
-        }
-        self.number = self.number.wrapping_add(1);
-        Ok(Some(parse(&self.line, &mut self.data)?))
+        Ok(None)
     }
 
     // Adds a line to the answers.
     pub(crate) fn say(&mut self, line: &str) -> io::Result<()> {
-        self.out.extend_from_slice(line.as_bytes())?;
-        Ok(())
+        self.out.write_all(line.as_bytes())
     }
 
     pub(crate) fn say_number(&mut self, name: &str, n: u64) -> io::Result<()> {
@@ -106,23 +93,19 @@ pub(crate) fn session<E: Engine + Drop, R: Read>(
     let mut printer = Printer::new(engine);
     let mut buffers = Buffers::new(player.heap)?;
     let mut next = Next::End;
+    // A script has no known end, so that a loop while there is a call has no measure.
     for _ in 0..u64::MAX {
         match player.next_call()? {
             None => break,
-            Some(None) => player.wrong()?,
-            Some(Some(Call::EngineTrack(room))) => {
-                next = Next::Track(room);
+            Some(Call::Engine { kind, room }) => {
+                next = Next::Engine(kind, room);
                 break;
             }
-            Some(Some(Call::EngineFile(room))) => {
-                next = Next::File(room);
-                break;
-            }
-            Some(Some(Call::End)) => {
+            Some(Call::End) => {
                 next = Next::Nothing;
                 break;
             }
-            Some(Some(call)) => perform(player, &mut printer, &mut buffers, call)?,
+            Some(call) => perform(player, &mut printer, &mut buffers, call)?,
         }
     }
     Ok((printer.into_engine(), next))
@@ -130,13 +113,13 @@ pub(crate) fn session<E: Engine + Drop, R: Read>(
 
 // With no printer end only an engine line can be played.
 pub(crate) fn skip_to_engine<R: Read>(player: &mut Player<R>) -> io::Result<Next> {
+    // No known end, as above.
     for _ in 0..u64::MAX {
         match player.next_call()? {
             None => break,
-            Some(Some(Call::EngineTrack(room))) => return Ok(Next::Track(room)),
-            Some(Some(Call::EngineFile(room))) => return Ok(Next::File(room)),
-            Some(Some(Call::Skip)) => {}
-            _ => player.wrong()?,
+            Some(Call::Engine { kind, room }) => return Ok(Next::Engine(kind, room)),
+            Some(Call::Skip) => {}
+            Some(_) => player.wrong()?,
         }
     }
     Ok(Next::End)
