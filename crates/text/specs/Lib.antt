@@ -1,4 +1,6 @@
 pub mod Fonts
+pub mod Axes
+pub mod Marks
 pub mod Canvases
 pub mod Steps
 pub mod Moves
