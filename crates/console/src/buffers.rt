@@ -3,7 +3,7 @@ use engine::Engine;
 use interpreter::Taken;
 use printer::Printer;
 use std::alloc::{AllocError, Global};
-use text::Mark;
+use text::{Drawn, Font, Mark};
 
 #[derive(Drop)]
 pub struct Buffers {
@@ -21,11 +21,12 @@ impl Buffers {
     // All zero, and handed out whole.
     pub(crate) fn new(heap: Global) -> Result<Buffers, AllocError> {
         let blank = Mark {
-            kind: 0,
             i: 0,
             b: 0,
-            first: 0,
-            second: 0,
+            drawn: Drawn::Character {
+                code: 0,
+                font: Font::Ten,
+            },
         };
         Ok(Buffers {
             reply: vec![in heap; 0u8; 64]?,

@@ -73,13 +73,14 @@ fn marks<R: Read>(player: &mut Player<R>, buffers: &Buffers) -> io::Result<()> {
     let placed = buffers.placed();
     player.say_number("marks ", placed.len() as u64)?;
     for m in placed {
+        let (kind, i, b, first, second) = m.numbers();
         let line = lines::mark_line(
             player.heap,
-            m.kind as u32,
-            m.i as i64,
-            m.b as i64,
-            m.first as i64,
-            m.second as i64,
+            u32::from(kind),
+            i64::from(i),
+            i64::from(b),
+            i64::from(first),
+            i64::from(second),
         )?;
         player.say(&line)?;
     }

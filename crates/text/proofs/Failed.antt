@@ -1,6 +1,6 @@
 -- Where a ground stands, a control is refused.
-use Rattle.std.proofs.Common.{◌≡◌, ℕ, ◌<◌, Bool, true, false, ◌&&◌, ◌||◌, eqb, ltb, ◌⊎◌, List, [], ◌∷◌, length, get_or, drop, ℤ, pos, ◌+ℤ◌, ◌<ℤ◌, Some, None, ok_or, Err, sym, refl, ap, ◌∙◌, subst, inl, inr, arith}
-use Rattle.std.proofs.lemmas.Bool.{cond-true, cond-false, cases_Bool, cases_eq, and_left, and_right, and_from, or_left, or_right, lt-ltb, eq-eqb, ne_eqb}
+use Rattle.std.proofs.Common.{◌≡◌, ℕ, ◌<◌, Bool, true, false, ◌&&◌, ◌||◌, eqb, ltb, ◌⊎◌, List, [], ◌∷◌, length, get_or, drop, ℤ, pos, ◌+ℤ◌, Some, None, ok_or, Err, sym, refl, ap, ◌∙◌, subst, inl, inr, arith}
+use Rattle.std.proofs.lemmas.Bool.{cond-true, cond-false, cases_Bool, cases_eq, and_left, and_right, and_from, or_left, or_right, both_ways, lt-ltb, eq-eqb, ne_eqb}
 use Rattle.refusal.specs.declared.Refusal.{Refusal}
 use Rattle.refusal.specs.declared.Refusal.TheVariants.{ControlLength, BadControl}
 use Rattle.text.specs.declared.control.Kind.{Kind}
@@ -16,7 +16,9 @@ use Rattle.text.specs.Cycles.{cycled}
 use Rattle.text.specs.Controls.{kind_of, sized, named, headed, control_of, parameters}
 use Rattle.text.specs.Effects.{two, word, width, repeated, effect, succeeded, obeyed}
 use Rattle.text.specs.Grounds.{body_of, Misheaded, not_introduced, no_length, too_short, too_long, not_its_length, unknown, target_of, Unperformed, no_position, no_font, letters, too_many, no_pattern, repetitions, off_page, rule_unplaced}
-use Rattle.text.proofs.Failing.{Bad, Far, Fails, fails_then, fails_since, fails_characters, fails_moved, off_spans, ruled_off, ruled_full}
+use Rattle.text.proofs.Grounded.{Far}
+use Rattle.std.proofs.lemmas.Option.{none-some}
+use Rattle.text.proofs.Failing.{Bad, Fails, fails_then, fails_since, fails_characters, fails_moved, off_spans, ruled_off, ruled_full}
 
 -- the header, from the length byte on
 measured : (before size type : ℕ) (more : List ℕ) → ((ltb size 2 || ltb (length (size ∷ type ∷ more)) size) ≡ false → Bad (named before (kind_of type) size type)) → Bad (headed before (size ∷ type ∷ more))
@@ -64,7 +66,7 @@ lifted false (a ∷ b ∷ bs) g =
     ]
 
 unled : (c : Bool) (bs : List ℕ) → c ≡ false → (get_or bs 1 0 ≡ 0xD3 → ⊥) → Bad (control_of c bs)
-unled true bs e n = absurd (let z : ◌≡◌ {A = ℕ} 0 1 = cc in omega arith)
+unled true bs e n = absurd (both_ways true e refl)
 unled false [] e n = (BadControl, refl)
 unled false (a ∷ []) e n = (BadControl, refl)
 unled false (a ∷ b ∷ bs) e n = (BadControl, cond-false (eqb b 0xD3) (headed 2 bs) (Err BadControl) (ne_eqb _ _ n))
@@ -78,13 +80,13 @@ fails_control c bs r (not_its_length {k} e h) = lifted c bs (λ before. wrong_bo
 fails_control c bs r (unknown z e) = lifted c bs (λ before. strange_body before (body_of c bs) e)
 
 -- the effect
-fails_move : (k : Kind) (ps : List ℕ) (s : Canvas) (z : ℤ) → target_of k ps s.conditions ≡ Some z → (z <ℤ pos 0) ⊎ (pos 32767 <ℤ z) → Fails (effect k ps s)
+fails_move : (k : Kind) (ps : List ℕ) (s : Canvas) (z : ℤ) → target_of k ps s.conditions ≡ Some z → Far z → Fails (effect k ps s)
 fails_move (Absolute axis) ps s z e f = let i : z ≡ word ps 0 = cc in fails_moved axis (word ps 0) s (subst Far i f)
 fails_move (Relative axis) ps s z e f = let i : z ≡ pos (position axis s.conditions) +ℤ word ps 0 = cc in fails_moved axis (pos (position axis s.conditions) +ℤ word ps 0) s (subst Far i f)
-fails_move SetFont ps s z e f = absurd (let z : ◌≡◌ {A = ℕ} 0 1 = cc in omega arith)
-fails_move Transparent ps s z e f = absurd (let z : ◌≡◌ {A = ℕ} 0 1 = cc in omega arith)
-fails_move Repeat ps s z e f = absurd (let z : ◌≡◌ {A = ℕ} 0 1 = cc in omega arith)
-fails_move (Rule axis) ps s z e f = absurd (let z : ◌≡◌ {A = ℕ} 0 1 = cc in omega arith)
+fails_move SetFont ps s z e f = absurd (none-some _ e)
+fails_move Transparent ps s z e f = absurd (none-some _ e)
+fails_move Repeat ps s z e f = absurd (none-some _ e)
+fails_move (Rule axis) ps s z e f = absurd (none-some _ e)
 
 fails_font : (n : ℕ) (s : Canvas) → (n ≡ 0) ⊎ (3 < n) → Fails (taken (fonted n s.conditions) s)
 fails_font n s f =

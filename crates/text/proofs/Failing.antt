@@ -1,5 +1,5 @@
 -- Where a ground stands, the work is refused.
-use Rattle.std.proofs.Common.{◌≡◌, ℕ, ◌+◌, ◌≤◌, Bool, true, false, cond, ◌||◌, T, eqb, ltb, leb, ◌⊎◌, List, [], ◌∷◌, ◌++◌, length, ℤ, pos, ◌+ℤ◌, nat_abs, ◌≤ℤ◌, ◌<ℤ◌, Some, Ok, Err, Result, sym, refl, ap, ◌∙◌, subst, inl, inr, arith}
+use Rattle.std.proofs.Common.{◌≡◌, ℕ, ◌+◌, ◌≤◌, Bool, true, false, cond, ◌||◌, T, eqb, ltb, leb, List, [], ◌∷◌, ◌++◌, length, ℤ, pos, ◌+ℤ◌, nat_abs, ◌≤ℤ◌, ◌<ℤ◌, Some, Ok, Err, Result, sym, refl, ap, ◌∙◌, subst, inl, inr, arith}
 use lib.Signed.{lt_z, le_z, le_z_yes}
 use Rattle.std.proofs.lemmas.Int.{ints}
 use Rattle.std.proofs.lemmas.Bool.{cond-true, cond-false, cases_Bool, and_left, and_right, and_parts, or_left, or_right, or_from, le-ltb, lt-leb, ne_eqb}
@@ -18,7 +18,8 @@ use Rattle.text.specs.Moves.{place, moved, moved_by}
 use Rattle.text.specs.Rules.{spans, nothing, bar, ruled}
 use Rattle.text.specs.Runs.{characters}
 use Rattle.text.specs.Grounds.{Unplaced, past_edge, under_page, list_full, Unplaceds, Off, Ruled}
-use Rattle.text.proofs.Outs.{then_assoc}
+use Rattle.text.proofs.Outs.{then_assoc, ok_or_err}
+use Rattle.text.proofs.Grounded.{Far}
 
 -- a result that refuses, and work that does
 abbrev pub Bad : {A F : Type 0} → Result A F → Type 0
@@ -29,7 +30,7 @@ Fails o = Bad o.result
 
 -- work that begins with work that fails
 fails_at : (s : Canvas) (r : Result (Unit {0}) Refusal) (more : Canvas → Out Refusal) → Bad r → Fails (and_then (out s r) more)
-fails_at s (Ok x) more b = absurd (let i : Ok x ≡ Err b.0 = b.1 in let z : ◌≡◌ {A = ℕ} 0 1 = cc in omega arith)
+fails_at s (Ok x) more b = absurd (ok_or_err _ _ b.1)
 fails_at s (Err f) more b = (f, refl)
 
 pub fails_then : (o : Out Refusal) (more : Canvas → Out Refusal) → Fails o → Fails (and_then o more)
@@ -90,13 +91,10 @@ some z ne =
     ]
 
 -- moves
-abbrev pub Far : ℤ → Type 0
-Far z = (z <ℤ pos 0) ⊎ (pos 32767 <ℤ z)
-
-beyond : (z : ℤ) → (z <ℤ pos 0) ⊎ (pos 32767 <ℤ z) → place z ≡ Err Outside
+beyond : (z : ℤ) → Far z → place z ≡ Err Outside
 beyond z f = cond-true (lt_z z (pos 0) || lt_z (pos 32767) z) (Err Outside) (Ok (nat_abs z)) (elim f [ inl h ↦ or_left _ _ (under _ _ h) | inr h ↦ or_right _ _ (under _ _ h) ])
 
-pub fails_moved : (axis : Axis) (z : ℤ) (s : Canvas) → (z <ℤ pos 0) ⊎ (pos 32767 <ℤ z) → Fails (taken (moved axis z s.conditions) s)
+pub fails_moved : (axis : Axis) (z : ℤ) (s : Canvas) → Far z → Fails (taken (moved axis z s.conditions) s)
 fails_moved axis z s f = (Outside, ap (λ o. (taken (moved_by axis o s.conditions) s).result) (beyond z f))
 
 -- rules

@@ -14,6 +14,7 @@ use Rattle.text.specs.Grounds as grounds
 use Rattle.text.specs.Grounds.{Ground, Unobeyed, misheaded, unperformed, no_successor}
 use Rattle.text.specs.Judging as judging
 use Rattle.text.specs.Judging.{Reach, here, Refuses, Judged, Met, GroundsDecide}
+use Rattle.text.proofs.Outs.{ok_or_err}
 use Rattle.text.proofs.Bounds.{unbounded}
 use Rattle.text.proofs.Failing.{Bad, Fails, fails_character}
 use Rattle.text.proofs.Failed.{fails_control, fails_effect, fails_obeyed, fails_chained}
@@ -41,7 +42,7 @@ abbrev RefusedAt : ℕ → Out TextFault → Type 0
 RefusedAt at o = (r : Refusal) × (o.result ≡ Err (fault r at))
 
 refused_at : (at : ℕ) (s : Canvas) (r : Result (Unit {0}) Refusal) (more : Canvas → Out TextFault) → Bad r → RefusedAt at (and_then (located at (out s r)) more)
-refused_at at s (Ok x) more b = absurd (let i : Ok x ≡ Err b.0 = b.1 in let z : ◌≡◌ {A = ℕ} 0 1 = cc in omega arith)
+refused_at at s (Ok x) more b = absurd (ok_or_err _ _ b.1)
 refused_at at s (Err r) more b = (r, refl)
 
 refused_then : (at : ℕ) (o : Out Refusal) (more : Canvas → Out TextFault) → Fails o → RefusedAt at (and_then (located at o) more)

@@ -1,5 +1,5 @@
 -- One piece of work after another.
-use Rattle.std.proofs.Common.{◌≡◌, Ok, Err, Result, refl}
+use Rattle.std.proofs.Common.{◌≡◌, ℕ, Ok, Err, Result, refl, arith}
 use Rattle.text.specs.Canvases.{Canvas, Out, out, and_then}
 
 then_assoc_at : {F : Type 0} (s : Canvas) (r : Result (Unit {0}) F) (f g h : Canvas → Out F) → ((t : Canvas) → f t ≡ and_then (g t) h) → and_then (out s r) f ≡ and_then (and_then (out s r) g) h
@@ -9,3 +9,7 @@ then_assoc_at s (Err x) f g h e = refl
 -- after a piece of work, what is one piece for another way to be done
 pub then_assoc : {F : Type 0} (o : Out F) (f g h : Canvas → Out F) → ((t : Canvas) → f t ≡ and_then (g t) h) → and_then o f ≡ and_then (and_then o g) h
 then_assoc o f g h e = then_assoc_at o.left o.result f g h e
+
+-- work ends one way
+pub ok_or_err : {A F : Type 0} (x : A) (f : F) → Ok x ≡ Err f → ⊥
+ok_or_err x f e = let z : ◌≡◌ {A = ℕ} 0 1 = cc in omega arith

@@ -25,7 +25,8 @@ pub enum Kind {
 #[derive(Clone, Copy, Debug, PartialEq, Eq)]
 pub struct Control {
     pub kind: Kind,
-    // Another control follows directly. It is a flag, since it is the type's last bit and says only yes or no.
+    // Another control follows directly. It stays a flag: the type's last bit says it, and an enum of two states would be
+    // made from that bit and taken apart again at each use.
     pub chained: bool,
     // Where its parameters begin and where it ends, counted from its first byte.
     pub start: usize,

@@ -26,8 +26,7 @@ impl Writer<'_> {
         ensures cycle { out (canvas_of self.new) result ≡ characters (cycled times pattern.now) (canvas_of self.old) }
     {
         for k in 0..times {
-            let code = code_at(pattern, k);
-            self.character(code)?;
+            self.character(code_at(pattern, k))?;
         }
         Ok(())
     }

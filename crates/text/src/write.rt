@@ -70,13 +70,12 @@ impl Writer<'_> {
         let mut rest = data;
         let mut at = 0;
         let mut chained = false;
-        while rest.len() > 0 {
-            if begins(chained, rest[0]) {
+        while let [first, ..] = rest {
+            if begins(chained, *first) {
                 let control = read_at(chained, rest, at)?;
                 self.obey_at(control, rest, at)?;
-                let size = control.end;
-                rest = &rest[size..];
-                at += size;
+                rest = &rest[control.end..];
+                at += control.end;
                 chained = control.chained;
             } else {
                 let size = plain(rest);

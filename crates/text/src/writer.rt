@@ -9,6 +9,7 @@ use crate::step::Step;
 use refusal::Refusal;
 
 // The list is the caller's. New marks go to its places from the count on, in place.
+#[derive(Drop)]
 pub struct Writer<'a> {
     pub marks: &'a mut [Mark],
     // How many places are in use.

@@ -6,12 +6,12 @@ use Rattle.text.proofs.writer.Writer.cycle.Goals as goal
 pub returns-in_err-character-clause-cycle : goal.returns-in_err-character-clause-cycle
 returns-in_err-character-clause-cycle c =
     let p = err_from_is_err_and c.from_residual.result c.from_residual.ensures.1 in
-    rw (p.1, p.2) (cycle_off _ _ c.requires c.loop-k.k _ _ _ _ _ _ (omega arith) c.code_at-code.ensures c.character.ensures.character c.in_err-character.was c.loop-k.invariant.1)
+    rw (p.1, p.2) (cycle_off _ _ c.requires c.loop-k.k _ _ _ _ _ _ (omega arith) c.code_at.ensures c.character.ensures.character c.in_err-character.was c.loop-k.invariant.1)
 
 pub loop-k-preserved : goal.loop-k-preserved
 loop-k-preserved c = (
   c.character.ensures.same_list ∙ c.loop-k.invariant.0,
-  cycle_on _ _ c.requires c.loop-k.k _ _ _ _ _ (omega arith) c.code_at-code.ensures c.character.ensures.character c.in_ok-character.was c.loop-k.invariant.1,
+  cycle_on _ _ c.requires c.loop-k.k _ _ _ _ _ (omega arith) c.code_at.ensures c.character.ensures.character c.in_ok-character.was c.loop-k.invariant.1,
 )
 
 pub returns-clause-cycle : goal.returns-clause-cycle
