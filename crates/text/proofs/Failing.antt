@@ -18,7 +18,7 @@ use Rattle.text.specs.Moves.{place, moved, moved_by}
 use Rattle.text.specs.Rules.{spans, nothing, bar, ruled}
 use Rattle.text.specs.Runs.{characters}
 use Rattle.text.specs.Grounds.{Unplaced, past_edge, under_page, list_full, Unplaceds, Off, Ruled}
-use Rattle.text.proofs.Outs.{then_assoc, ok_or_err}
+use Rattle.text.proofs.Outs.{then_assoc}
 use Rattle.text.proofs.Grounded.{Far}
 
 -- a result that refuses, and work that does
@@ -29,12 +29,8 @@ abbrev pub Fails : Out Refusal → Type 0
 Fails o = Bad o.result
 
 -- work that begins with work that fails
-fails_at : (s : Canvas) (r : Result (Unit {0}) Refusal) (more : Canvas → Out Refusal) → Bad r → Fails (and_then (out s r) more)
-fails_at s (Ok x) more b = absurd (ok_or_err _ _ b.1)
-fails_at s (Err f) more b = (f, refl)
-
 pub fails_then : (o : Out Refusal) (more : Canvas → Out Refusal) → Fails o → Fails (and_then o more)
-fails_then o more b = fails_at o.left o.result more b
+fails_then o more b = (b.0, ap (λ r. (and_then (out o.left r) more).result) b.1)
 
 pub fails_since : (o o' : Out Refusal) → o ≡ o' → Fails o' → Fails o
 fails_since o o' e b = subst Fails (sym e) b

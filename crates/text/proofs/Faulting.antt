@@ -15,7 +15,7 @@ use Rattle.text.specs.declared.fault.TextFault.{TextFault}
 use Rattle.text.specs.declared.font.Font.{Font}
 use Rattle.text.specs.declared.step.Step.{Step}
 use Rattle.text.specs.Axes.{usual_width, position}
-use Rattle.text.specs.Canvases.{Canvas, Out, out, and_then}
+use Rattle.text.specs.Canvases.{Canvas, Out, and_then}
 use Rattle.text.specs.Fonts.{font_of}
 use Rattle.text.specs.Steps.{fits, lettered, put, taken, character}
 use Rattle.text.specs.Moves.{place, moved_by, moved, fonted_by, fonted}
@@ -24,6 +24,7 @@ use Rattle.text.specs.Runs.{characters, located_in, located}
 use Rattle.text.specs.Cycles.{cycled}
 use Rattle.text.specs.Controls.{kind_of, sized, named, headed, introduced, control_of, parameters}
 use Rattle.text.specs.Effects.{two, word, width, repeated, effect, succeeded, obeyed}
+use Rattle.text.proofs.Outs.{by_end}
 use Rattle.text.specs.Texts.{begins, Further, controlled, walk, text_of}
 
 abbrev same : Refusal → Refusal
@@ -35,12 +36,8 @@ Told r = Faulty same r
 abbrev pub refusal_of : TextFault → Refusal
 refusal_of f = f.refusal
 
-pub faults_at : {F : Type 0} (of : F → Refusal) (s : Canvas) (q : Result (Unit {0}) F) (more : Canvas → Out F) → Faulty of q → ((r : Canvas) → Faulty of (more r).result) → Faulty of (and_then (out s q) more).result
-faults_at of s (Ok x) more h g = g s
-faults_at of s (Err f) more h g = h
-
 pub faults_then : {F : Type 0} (of : F → Refusal) (o : Out F) (more : Canvas → Out F) → Faulty of o.result → ((r : Canvas) → Faulty of (more r).result) → Faulty of (and_then o more).result
-faults_then of o more h g = faults_at of o.left o.result more h g
+faults_then of o more h g = by_end o more (λ x. Faulty of x.result) (λ t e. g t) (λ f e. h)
 
 faults_put : (m : Option Mark) (t : TextConditions) (s : Canvas) → Told (put m t s).result
 faults_put None t s = tt

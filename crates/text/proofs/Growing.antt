@@ -1,5 +1,5 @@
 -- Every piece of text only adds marks.
-use Rattle.std.proofs.Common.{◌≡◌, ℕ, zero, suc, ◌+◌, ◌-◌, ◌<◌, Bool, false, ◌&&◌, ◌||◌, eqb, ltb, List, [], ◌∷◌, length, get_or, take, drop, set, pos, ◌+ℤ◌, Some, None, Ok, Err, Option, Result, sym, refl, ap, ◌∙◌, arith}
+use Rattle.std.proofs.Common.{◌≡◌, ℕ, zero, suc, ◌+◌, ◌-◌, ◌<◌, Bool, false, ◌&&◌, ◌||◌, eqb, ltb, List, [], ◌∷◌, length, get_or, take, drop, set, pos, ◌+ℤ◌, Some, None, Ok, Err, Option, Result, sym, refl, ap, ◌∙◌, subst, arith}
 use Rattle.std.proofs.lemmas.List.{length-set, take-set-le, take-take, drop-set-lt, drop-drop}
 use Rattle.std.proofs.lemmas.Bool.{cond_both, ltb-true}
 use Rattle.refusal.specs.declared.Refusal.{Refusal}
@@ -12,7 +12,7 @@ use Rattle.text.specs.declared.control.Control.{Control}
 use Rattle.text.specs.declared.fault.TextFault.{TextFault}
 use Rattle.text.specs.declared.step.Step.{Step}
 use Rattle.text.specs.Axes.{usual_width, position}
-use Rattle.text.specs.Canvases.{Canvas, canvas, Out, out, done, refused, and_then, Grows}
+use Rattle.text.specs.Canvases.{Canvas, canvas, Out, done, refused, and_then, Grows}
 use Rattle.text.specs.Steps.{lettered, put, taken, character}
 use Rattle.text.specs.Runs.{located, characters}
 use Rattle.text.specs.Cycles.{cycled}
@@ -20,6 +20,7 @@ use Rattle.text.specs.Controls.{control_of, parameters}
 use Rattle.text.specs.Effects.{two, word, width, repeated, effect, succeeded, obeyed}
 use Rattle.text.specs.Moves.{moved, fonted}
 use Rattle.text.specs.Rules.{rule}
+use Rattle.text.proofs.Outs.{by_end}
 use Rattle.text.specs.Texts.{Further, begins, controlled, walk, text_of}
 
 pub stays : (s : Canvas) → Grows s s
@@ -58,12 +59,8 @@ pub grows_taken : (p : Result Step Refusal) (s : Canvas) → Grows s (taken p s)
 grows_taken (Ok p) s = grows_put p.mark p.next s
 grows_taken (Err r) s = stays s
 
-grows_at : {F : Type 0} (s r : Canvas) (q : Result (Unit {0}) F) (more : Canvas → Out F) → Grows s r → ((r : Canvas) → Grows r (more r).left) → Grows s (and_then (out r q) more).left
-grows_at s r (Ok x) more h g = along s r _ h (g r)
-grows_at s r (Err e) more h g = h
-
 grows_then : {F : Type 0} (s : Canvas) (o : Out F) (more : Canvas → Out F) → Grows s o.left → ((r : Canvas) → Grows r (more r).left) → Grows s (and_then o more).left
-grows_then s o more h g = grows_at s o.left o.result more h g
+grows_then {F} s o more h g = by_end o more (λ x. Grows s x.left) (λ t e. along s t (more t).left (subst (λ (x : Out F). Grows s x.left) e h) (g t)) (λ f e. h)
 
 grows_characters : (cs : List ℕ) (s : Canvas) → Grows s (characters cs s).left
 unfolding characters
