@@ -40,16 +40,9 @@ pub struct Buffers {
 impl Buffers {
     // All zero, and handed out whole.
     pub(crate) fn new(heap: Global) -> Result<Buffers, AllocError> {
-        let blank = Mark {
-            kind: 0,
-            i: 0,
-            b: 0,
-            first: 0,
-            second: 0,
-        };
         Ok(Buffers {
             reply: Area::new(heap, 0, 64)?,
-            marks: Area::new(heap, blank, 1000)?,
+            marks: Area::new(heap, Mark::default(), 1000)?,
             memory: Area::new(heap, 0, 65536)?,
             placed: 0,
         })

@@ -13,7 +13,7 @@ use Rattle.engine.specs.Engines.{Paper, paper, advanced, purged}
 use Rattle.spool.specs.declared.page.Turned.{Turned}
 use Rattle.spool.specs.Views.{View, view, advance_v, feeds_v, turn_v}
 use Rattle.spool.specs.Receivers.{Station, station}
-use Rattle.text.specs.declared.Mark.{Mark}
+use Rattle.text.specs.declared.mark.Mark.{Mark}
 use Rattle.interpreter.specs.declared.taken.Taken.{Taken}
 use Rattle.interpreter.specs.Machines.{Machine, machine, fresh, open_page}
 use Rattle.interpreter.specs.Taking.{Taking, take_of}

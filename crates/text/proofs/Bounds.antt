@@ -11,6 +11,7 @@ use Rattle.text.specs.Controls.{control_of, Whole}
 use Rattle.text.specs.Effects.{obeyed}
 use Rattle.text.specs.Texts.{Further, begins, controlled, walk, text_from, text_of}
 use Rattle.text.specs.Laws.{Inside, Unbounded}
+use Rattle.text.proofs.Outs.{by_end}
 use Rattle.text.proofs.Headers.{control_good}
 
 then_same_at : {F : Type 0} (s : Canvas) (r : Result (Unit {0}) F) (f g : Canvas → Out F) → ((t : Canvas) → f t ≡ g t) → and_then (out s r) f ≡ and_then (out s r) g
@@ -46,12 +47,8 @@ unbounded = record {
 }
 
 -- faults
-inside_at : (n : ℕ) (s : Canvas) (r : Result (Unit {0}) TextFault) (more : Canvas → Out TextFault) → Inside n r → ((t : Canvas) → Inside n (more t).result) → Inside n (and_then (out s r) more).result
-inside_at n s (Ok x) more h g = g s
-inside_at n s (Err f) more h g = h
-
 inside_then : (n at : ℕ) (o : Out Refusal) (more : Canvas → Out TextFault) → at < n → ((t : Canvas) → Inside n (more t).result) → Inside n (and_then (located at o) more).result
-inside_then n at o more h g = inside_at n o.left (located at o).result more (inside_located o.result) g
+inside_then n at o more h g = by_end (located at o) more (λ x. Inside n x.result) (λ t e. g t) (λ f e. inside_located o.result)
   where
     inside_located : (r : Result (Unit {0}) Refusal) → Inside n (located at (out o.left r)).result
     inside_located (Ok x) = tt

@@ -1,17 +1,24 @@
 -- What a control does, by the ways that its code goes.
-use Rattle.std.proofs.Common.{◌≡◌, ℕ, true, false, ◌&&◌, eqb, List, length, drop, Ok, Err, Result, sym, ap, ◌∙◌}
+use Rattle.std.proofs.Common.{◌≡◌, ℕ, true, false, ◌&&◌, eqb, List, length, ℤ, Ok, Err, Result, sym, ap, ◌∙◌}
 use Rattle.std.proofs.lemmas.Bool.{cond-true, cond-false}
 use Rattle.refusal.specs.declared.Refusal.{Refusal}
 use Rattle.refusal.specs.declared.Refusal.TheVariants.{BadControl}
 use Rattle.text.specs.declared.control.Kind.{Kind}
-use Rattle.text.specs.declared.control.Kind.TheVariants.{Repeat}
+use Rattle.text.specs.declared.control.Kind.TheVariants.{Rule}
 use Rattle.text.specs.declared.control.Control.{Control}
-use Rattle.text.specs.Canvases.{Canvas, Out, out, done, and_then}
+use Rattle.text.specs.declared.step.Step.{Step}
+use Rattle.text.specs.declared.axis.Axis.{Axis}
+use Rattle.text.specs.Axes.{usual_width}
+use Rattle.text.specs.Canvases.{Canvas, out, done, refused, and_then}
+use Rattle.text.specs.Steps.{taken}
+use Rattle.text.specs.Rules.{rule}
 use Rattle.text.specs.Controls.{parameters}
-use Rattle.text.specs.Effects.{two, repeated, effect, succeeded, obeyed}
+use Rattle.text.specs.Effects.{word, width, effect, succeeded, obeyed}
 
-pub did_repeat : (k : Kind) (ps rest : List ℕ) (n : ℕ) (s : Canvas) (o : Out Refusal) → k ≡ Repeat → rest ≡ drop 2 ps → n ≡ two ps 0 → o ≡ repeated n rest s → o ≡ effect k ps s
-did_repeat k ps rest n s o is e f did = did ∙ (λ i. repeated (f i) (e i) s) ∙ ap (λ x. effect x ps s) (sym is)
+-- a rule that is refused
+pub refused_rule : (axis : Axis) (k : Kind) (ps : List ℕ) (n w : ℤ) (s : Canvas) (p : Result Step Refusal) (f : Refusal) → k ≡ Rule axis → n ≡ word ps 0 → w ≡ width (usual_width axis) ps → p ≡ rule axis n w s.conditions → p ≡ Err f → refused f s ≡ effect k ps s
+refused_rule axis k ps n w s p f is long wide e was =
+    ap (λ q. taken q s) (sym was ∙ e) ∙ (λ i. taken (rule axis (long i) (wide i) s.conditions) s) ∙ ap (λ x. effect x ps s) (sym is)
 
 -- a control: its effect was refused, it is chained to the end, or it is done
 module _ (h : Control) (bs : List ℕ) (s s' : Canvas) (r : Result (Unit {0}) Refusal) (did : out s' r ≡ effect h.kind (parameters h bs) s) where

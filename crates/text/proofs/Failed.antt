@@ -1,11 +1,12 @@
 -- Where a ground stands, a control is refused.
-use Rattle.std.proofs.Common.{◌≡◌, ℕ, ◌<◌, Bool, true, false, ◌&&◌, ◌||◌, eqb, ltb, ◌⊎◌, List, [], ◌∷◌, length, get_or, drop, ℤ, pos, ◌+ℤ◌, ◌<ℤ◌, Some, None, Err, sym, refl, ap, ◌∙◌, subst, inl, inr, arith}
-use Rattle.std.proofs.lemmas.Bool.{cond-true, cond-false, cases_Bool, cases_eq, and_left, and_right, and_from, or_left, or_right, lt-ltb, eq-eqb, ne_eqb}
+use Rattle.std.proofs.Common.{◌≡◌, ℕ, ◌<◌, Bool, true, false, ◌&&◌, ◌||◌, eqb, ltb, ◌⊎◌, List, [], ◌∷◌, length, get_or, drop, ℤ, pos, ◌+ℤ◌, Some, None, ok_or, Err, sym, refl, ap, ◌∙◌, subst, inl, inr, arith}
+use Rattle.std.proofs.lemmas.Bool.{cond-true, cond-false, cases_Bool, cases_eq, and_left, and_right, and_from, or_left, or_right, both_ways, lt-ltb, eq-eqb, ne_eqb}
 use Rattle.refusal.specs.declared.Refusal.{Refusal}
 use Rattle.refusal.specs.declared.Refusal.TheVariants.{ControlLength, BadControl}
 use Rattle.text.specs.declared.control.Kind.{Kind}
-use Rattle.text.specs.declared.control.Kind.TheVariants.{AbsoluteI, RelativeI, AbsoluteB, RelativeB, SetFont, Transparent, Repeat, RuleI, RuleB}
+use Rattle.text.specs.declared.control.Kind.TheVariants.{Absolute, Relative, SetFont, Transparent, Repeat, Rule}
 use Rattle.text.specs.declared.control.Control.{Control}
+use Rattle.text.specs.Axes.{usual_width, position}
 use Rattle.text.specs.Fonts.{font_of}
 use Rattle.text.specs.Canvases.{Canvas, Out, done, refused, and_then}
 use Rattle.text.specs.Steps.{taken}
@@ -14,8 +15,10 @@ use Rattle.text.specs.Runs.{characters}
 use Rattle.text.specs.Cycles.{cycled}
 use Rattle.text.specs.Controls.{kind_of, sized, named, headed, control_of, parameters}
 use Rattle.text.specs.Effects.{two, word, width, repeated, effect, succeeded, obeyed}
-use Rattle.text.specs.Grounds.{body_of, Misheaded, not_introduced, no_length, too_short, too_long, not_its_length, unknown, target_of, Unperformed, no_position, no_font, letters, too_many, no_pattern, repetitions, off_page_i, off_page_b, list_full_i, list_full_b}
-use Rattle.text.proofs.Failing.{Bad, Far, Fails, fails_then, fails_since, fails_characters, fails_moved_i, fails_moved_b, off_spans, ruled_off, ruled_full}
+use Rattle.text.specs.Grounds.{body_of, Misheaded, not_introduced, no_length, too_short, too_long, not_its_length, unknown, target_of, Unperformed, no_position, no_font, letters, too_many, no_pattern, repetitions, off_page, rule_unplaced}
+use Rattle.text.proofs.Grounded.{Far}
+use Rattle.std.proofs.lemmas.Option.{none-some}
+use Rattle.text.proofs.Failing.{Bad, Fails, fails_then, fails_since, fails_characters, fails_moved, off_spans, ruled_off, ruled_full}
 
 -- the header, from the length byte on
 measured : (before size type : ℕ) (more : List ℕ) → ((ltb size 2 || ltb (length (size ∷ type ∷ more)) size) ≡ false → Bad (named before (kind_of type) size type)) → Bad (headed before (size ∷ type ∷ more))
@@ -63,7 +66,7 @@ lifted false (a ∷ b ∷ bs) g =
     ]
 
 unled : (c : Bool) (bs : List ℕ) → c ≡ false → (get_or bs 1 0 ≡ 0xD3 → ⊥) → Bad (control_of c bs)
-unled true bs e n = absurd (let z : ◌≡◌ {A = ℕ} 0 1 = cc in omega arith)
+unled true bs e n = absurd (both_ways true e refl)
 unled false [] e n = (BadControl, refl)
 unled false (a ∷ []) e n = (BadControl, refl)
 unled false (a ∷ b ∷ bs) e n = (BadControl, cond-false (eqb b 0xD3) (headed 2 bs) (Err BadControl) (ne_eqb _ _ n))
@@ -77,16 +80,13 @@ fails_control c bs r (not_its_length {k} e h) = lifted c bs (λ before. wrong_bo
 fails_control c bs r (unknown z e) = lifted c bs (λ before. strange_body before (body_of c bs) e)
 
 -- the effect
-fails_move : (k : Kind) (ps : List ℕ) (s : Canvas) (z : ℤ) → target_of k ps s.conditions ≡ Some z → (z <ℤ pos 0) ⊎ (pos 32767 <ℤ z) → Fails (effect k ps s)
-fails_move AbsoluteI ps s z e f = let i : z ≡ word ps 0 = cc in fails_moved_i (word ps 0) s (subst Far i f)
-fails_move RelativeI ps s z e f = let i : z ≡ pos s.conditions.i +ℤ word ps 0 = cc in fails_moved_i (pos s.conditions.i +ℤ word ps 0) s (subst Far i f)
-fails_move AbsoluteB ps s z e f = let i : z ≡ word ps 0 = cc in fails_moved_b (word ps 0) s (subst Far i f)
-fails_move RelativeB ps s z e f = let i : z ≡ pos s.conditions.b +ℤ word ps 0 = cc in fails_moved_b (pos s.conditions.b +ℤ word ps 0) s (subst Far i f)
-fails_move SetFont ps s z e f = absurd (let z : ◌≡◌ {A = ℕ} 0 1 = cc in omega arith)
-fails_move Transparent ps s z e f = absurd (let z : ◌≡◌ {A = ℕ} 0 1 = cc in omega arith)
-fails_move Repeat ps s z e f = absurd (let z : ◌≡◌ {A = ℕ} 0 1 = cc in omega arith)
-fails_move RuleI ps s z e f = absurd (let z : ◌≡◌ {A = ℕ} 0 1 = cc in omega arith)
-fails_move RuleB ps s z e f = absurd (let z : ◌≡◌ {A = ℕ} 0 1 = cc in omega arith)
+fails_move : (k : Kind) (ps : List ℕ) (s : Canvas) (z : ℤ) → target_of k ps s.conditions ≡ Some z → Far z → Fails (effect k ps s)
+fails_move (Absolute axis) ps s z e f = let i : z ≡ word ps 0 = cc in fails_moved axis (word ps 0) s (subst Far i f)
+fails_move (Relative axis) ps s z e f = let i : z ≡ pos (position axis s.conditions) +ℤ word ps 0 = cc in fails_moved axis (pos (position axis s.conditions) +ℤ word ps 0) s (subst Far i f)
+fails_move SetFont ps s z e f = absurd (none-some _ e)
+fails_move Transparent ps s z e f = absurd (none-some _ e)
+fails_move Repeat ps s z e f = absurd (none-some _ e)
+fails_move (Rule axis) ps s z e f = absurd (none-some _ e)
 
 fails_font : (n : ℕ) (s : Canvas) → (n ≡ 0) ⊎ (3 < n) → Fails (taken (fonted n s.conditions) s)
 fails_font n s f =
@@ -94,7 +94,7 @@ fails_font n s f =
     let b : n ≡ 2 → ⊥ = λ e. elim f [ inl h ↦ omega arith | inr h ↦ omega arith ] in
     let c : n ≡ 3 → ⊥ = λ e. elim f [ inl h ↦ omega arith | inr h ↦ omega arith ] in
     let none : font_of n ≡ None = cond-false (eqb n 1) _ _ (ne_eqb _ _ a) ∙ cond-false (eqb n 2) _ _ (ne_eqb _ _ b) ∙ cond-false (eqb n 3) _ _ (ne_eqb _ _ c) in
-    (BadControl, ap (λ o. (taken (fonted_by o s.conditions) s).result) none)
+    (BadControl, ap (λ o. (taken (fonted_by (ok_or o BadControl) s.conditions) s).result) none)
 
 fails_count : (n : ℕ) (p : List ℕ) (s : Canvas) → (ltb 32767 n || (eqb (length p) 0 && ltb 0 n)) ≡ true → Fails (repeated n p s)
 fails_count n p s e = (BadControl, ap (λ (o : Out Refusal). o.result) (cond-true (ltb 32767 n || (eqb (length p) 0 && ltb 0 n)) _ _ e))
@@ -113,12 +113,10 @@ fails_effect k ps s r (letters e u) = subst (λ k. Fails (effect k ps s)) (sym e
 fails_effect k ps s r (too_many e h) = subst (λ k. Fails (effect k ps s)) (sym e) (fails_count (two ps 0) (drop 2 ps) s (or_left _ _ (lt-ltb _ _ h)))
 fails_effect k ps s r (no_pattern e h l) = subst (λ k. Fails (effect k ps s)) (sym e) (fails_count (two ps 0) (drop 2 ps) s (or_right _ _ (and_from _ _ (eq-eqb _ _ l) (lt-ltb _ _ h))))
 fails_effect k ps s r (repetitions e u) = subst (λ k. Fails (effect k ps s)) (sym e) (fails_cycled (two ps 0) (drop 2 ps) s (fails_characters (cycled (two ps 0) (drop 2 ps)) s r u))
-fails_effect k ps s r (off_page_i e u o) =
-    subst (λ k. Fails (effect k ps s)) (sym e) (ruled_off 2 _ (word ps 0) (width (pos 5) ps) s u (elim o [ inl h ↦ and_left _ _ (off_spans _ _ _ h) | inr h ↦ and_right _ _ (off_spans _ _ _ h) ]))
-fails_effect k ps s r (off_page_b e u o) =
-    subst (λ k. Fails (effect k ps s)) (sym e) (ruled_off 3 _ (word ps 0) (width (pos 4) ps) s u (elim o [ inl h ↦ and_left _ _ (off_spans _ _ _ h) | inr h ↦ and_right _ _ (off_spans _ _ _ h) ]))
-fails_effect k ps s r (list_full_i e u h) = subst (λ k. Fails (effect k ps s)) (sym e) (ruled_full 2 _ (word ps 0) (width (pos 5) ps) s u h)
-fails_effect k ps s r (list_full_b e u h) = subst (λ k. Fails (effect k ps s)) (sym e) (ruled_full 3 _ (word ps 0) (width (pos 4) ps) s u h)
+fails_effect k ps s r (off_page {axis} e u o) =
+    subst (λ k. Fails (effect k ps s)) (sym e)
+    (ruled_off axis _ (word ps 0) (width (usual_width axis) ps) s u (elim o [ inl h ↦ and_left _ _ (off_spans _ _ _ h) | inr h ↦ and_right _ _ (off_spans _ _ _ h) ]))
+fails_effect k ps s r (rule_unplaced {axis} e u h) = subst (λ k. Fails (effect k ps s)) (sym e) (ruled_full axis _ (word ps 0) (width (usual_width axis) ps) s u h)
 
 -- and the successor
 pub fails_obeyed : (h : Control) (bs : List ℕ) (s : Canvas) → Fails (effect h.kind (parameters h bs) s) → Fails (obeyed h bs s)

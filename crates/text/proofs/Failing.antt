@@ -1,21 +1,25 @@
 -- Where a ground stands, the work is refused.
-use Rattle.std.proofs.Common.{◌≡◌, ℕ, ◌+◌, ◌≤◌, Bool, true, false, cond, ◌||◌, T, eqb, ltb, leb, ◌⊎◌, List, [], ◌∷◌, ◌++◌, length, ℤ, pos, ◌+ℤ◌, nat_abs, ◌≤ℤ◌, ◌<ℤ◌, Some, None, Ok, Err, Result, sym, refl, ap, ◌∙◌, subst, inl, inr, arith}
+use Rattle.std.proofs.Common.{◌≡◌, ℕ, ◌+◌, ◌≤◌, Bool, true, false, cond, ◌||◌, T, eqb, ltb, leb, List, [], ◌∷◌, ◌++◌, length, ℤ, pos, ◌+ℤ◌, nat_abs, ◌≤ℤ◌, ◌<ℤ◌, Some, Ok, Err, Result, sym, refl, ap, ◌∙◌, subst, inl, inr, arith}
 use lib.Signed.{lt_z, le_z, le_z_yes}
 use Rattle.std.proofs.lemmas.Int.{ints}
 use Rattle.std.proofs.lemmas.Bool.{cond-true, cond-false, cases_Bool, and_left, and_right, and_parts, or_left, or_right, or_from, le-ltb, lt-leb, ne_eqb}
 use Rattle.refusal.specs.declared.Refusal.{Refusal}
 use Rattle.refusal.specs.declared.Refusal.TheVariants.{Outside, MarksFull}
-use Rattle.text.specs.declared.Mark.{Mark}
+use Rattle.text.specs.declared.axis.Axis.{Axis}
+use Rattle.text.specs.declared.axis.Axis.TheVariants.{Inline}
+use Rattle.text.specs.declared.mark.Mark.{Mark}
 use Rattle.text.specs.declared.conditions.TextConditions.{TextConditions}
 use Rattle.text.specs.declared.step.Step.{Step}
+use Rattle.text.specs.Axes.{extent}
 use Rattle.text.specs.Fonts.{advance_of}
 use Rattle.text.specs.Canvases.{Canvas, Out, out, and_then}
 use Rattle.text.specs.Steps.{fits, marked, onward, step, put, taken, character}
-use Rattle.text.specs.Moves.{place, moved_i, moved_iby, moved_b, moved_bby}
+use Rattle.text.specs.Moves.{place, moved, moved_by}
 use Rattle.text.specs.Rules.{spans, nothing, bar, ruled}
 use Rattle.text.specs.Runs.{characters}
 use Rattle.text.specs.Grounds.{Unplaced, past_edge, under_page, list_full, Unplaceds, Off, Ruled}
 use Rattle.text.proofs.Outs.{then_assoc}
+use Rattle.text.proofs.Grounded.{Far}
 
 -- a result that refuses, and work that does
 abbrev pub Bad : {A F : Type 0} → Result A F → Type 0
@@ -25,12 +29,8 @@ abbrev pub Fails : Out Refusal → Type 0
 Fails o = Bad o.result
 
 -- work that begins with work that fails
-fails_at : (s : Canvas) (r : Result (Unit {0}) Refusal) (more : Canvas → Out Refusal) → Bad r → Fails (and_then (out s r) more)
-fails_at s (Ok x) more b = absurd (let i : Ok x ≡ Err b.0 = b.1 in let z : ◌≡◌ {A = ℕ} 0 1 = cc in omega arith)
-fails_at s (Err f) more b = (f, refl)
-
 pub fails_then : (o : Out Refusal) (more : Canvas → Out Refusal) → Fails o → Fails (and_then o more)
-fails_then o more b = fails_at o.left o.result more b
+fails_then o more b = (b.0, ap (λ r. (and_then (out o.left r) more).result) b.1)
 
 pub fails_since : (o o' : Out Refusal) → o ≡ o' → Fails o' → Fails o
 fails_since o o' e b = subst Fails (sym e) b
@@ -47,7 +47,7 @@ unfit c s e = outside _ Outside s (cond-false (fits c s.conditions) _ _ e)
 
 pub fails_character : (c : ℕ) (s : Canvas) (r : Refusal) → Unplaced c s r → Fails (character c s)
 fails_character c s r (past_edge h) = unfit c s (and_left _ _ (lt-leb _ _ h))
-fails_character c s r (under_page h) = unfit c s (and_right (leb (s.conditions.i + advance_of s.conditions.font c) 12240) _ (lt-leb _ _ h))
+fails_character c s r (under_page h) = unfit c s (and_right (leb (s.conditions.i + advance_of s.conditions.font c) (extent Inline)) _ (lt-leb _ _ h))
 fails_character c s r (list_full ne h) =
     elim (cases_Bool (fits c s.conditions)) [
       | inl e ↦ fails_since (character c s) (put (Some (marked c s.conditions)) (onward c s.conditions) s)
@@ -87,17 +87,11 @@ some z ne =
     ]
 
 -- moves
-abbrev pub Far : ℤ → Type 0
-Far z = (z <ℤ pos 0) ⊎ (pos 32767 <ℤ z)
+beyond : (z : ℤ) → Far z → place z ≡ Err Outside
+beyond z f = cond-true (lt_z z (pos 0) || lt_z (pos 32767) z) (Err Outside) (Ok (nat_abs z)) (elim f [ inl h ↦ or_left _ _ (under _ _ h) | inr h ↦ or_right _ _ (under _ _ h) ])
 
-beyond : (z : ℤ) → (z <ℤ pos 0) ⊎ (pos 32767 <ℤ z) → place z ≡ None
-beyond z f = cond-true (lt_z z (pos 0) || lt_z (pos 32767) z) None (Some (nat_abs z)) (elim f [ inl h ↦ or_left _ _ (under _ _ h) | inr h ↦ or_right _ _ (under _ _ h) ])
-
-pub fails_moved_i : (z : ℤ) (s : Canvas) → (z <ℤ pos 0) ⊎ (pos 32767 <ℤ z) → Fails (taken (moved_i z s.conditions) s)
-fails_moved_i z s f = (Outside, ap (λ o. (taken (moved_iby o s.conditions) s).result) (beyond z f))
-
-pub fails_moved_b : (z : ℤ) (s : Canvas) → (z <ℤ pos 0) ⊎ (pos 32767 <ℤ z) → Fails (taken (moved_b z s.conditions) s)
-fails_moved_b z s f = (Outside, ap (λ o. (taken (moved_bby o s.conditions) s).result) (beyond z f))
+pub fails_moved : (axis : Axis) (z : ℤ) (s : Canvas) → Far z → Fails (taken (moved axis z s.conditions) s)
+fails_moved axis z s f = (Outside, ap (λ o. (taken (moved_by axis o s.conditions) s).result) (beyond z f))
 
 -- rules
 pub off_spans : (from : ℕ) (by : ℤ) (limit : ℕ) → Off from by limit → spans from by limit ≡ false
@@ -105,16 +99,16 @@ off_spans from by limit (inl h) = and_left _ _ (lt-leb _ _ h)
 off_spans from by limit (inr (inl h)) = and_right (leb from limit) _ (and_left _ _ (over _ _ h))
 off_spans from by limit (inr (inr h)) = and_right (leb from limit) _ (and_right (le_z (pos 0) (pos from +ℤ by)) _ (over _ _ h))
 
-ruled_is : (kind : ℕ) (inside : Bool) (l w : ℤ) (t : TextConditions) → Ruled l w → ruled kind inside l w t ≡ cond inside (Ok (step (Some (bar kind l w t)) t)) (Err Outside)
-ruled_is kind inside l w t u = cond-false (nothing l || nothing w) _ _ (or_from _ _ (some l u.long) (some w u.wide))
+ruled_is : (axis : Axis) (inside : Bool) (l w : ℤ) (t : TextConditions) → Ruled l w → ruled axis inside l w t ≡ cond inside (Ok (step (Some (bar axis l w t)) t)) (Err Outside)
+ruled_is axis inside l w t u = cond-false (nothing l || nothing w) _ _ (or_from _ _ (some l u.long) (some w u.wide))
 
-pub ruled_off : (kind : ℕ) (inside : Bool) (l w : ℤ) (s : Canvas) → Ruled l w → inside ≡ false → Fails (taken (ruled kind inside l w s.conditions) s)
-ruled_off kind inside l w s u e = outside _ Outside s (ruled_is kind inside l w s.conditions u ∙ cond-false inside _ _ e)
+pub ruled_off : (axis : Axis) (inside : Bool) (l w : ℤ) (s : Canvas) → Ruled l w → inside ≡ false → Fails (taken (ruled axis inside l w s.conditions) s)
+ruled_off axis inside l w s u e = outside _ Outside s (ruled_is axis inside l w s.conditions u ∙ cond-false inside _ _ e)
 
-pub ruled_full : (kind : ℕ) (inside : Bool) (l w : ℤ) (s : Canvas) → Ruled l w → length s.marks ≤ s.count → Fails (taken (ruled kind inside l w s.conditions) s)
-ruled_full kind inside l w s u h =
+pub ruled_full : (axis : Axis) (inside : Bool) (l w : ℤ) (s : Canvas) → Ruled l w → length s.marks ≤ s.count → Fails (taken (ruled axis inside l w s.conditions) s)
+ruled_full axis inside l w s u h =
     elim (cases_Bool inside) [
-      | inl e ↦ fails_since (taken (ruled kind inside l w s.conditions) s) (put (Some (bar kind l w s.conditions)) s.conditions s)
-          (ap (λ p. taken p s) (ruled_is kind inside l w s.conditions u ∙ cond-true inside _ _ e)) (full (bar kind l w s.conditions) s.conditions s h)
-      | inr e ↦ ruled_off kind inside l w s u e
+      | inl e ↦ fails_since (taken (ruled axis inside l w s.conditions) s) (put (Some (bar axis l w s.conditions)) s.conditions s)
+          (ap (λ p. taken p s) (ruled_is axis inside l w s.conditions u ∙ cond-true inside _ _ e)) (full (bar axis l w s.conditions) s.conditions s h)
+      | inr e ↦ ruled_off axis inside l w s u e
     ]

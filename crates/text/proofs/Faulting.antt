@@ -1,25 +1,30 @@
 -- A text is refused by faults alone.
-use Rattle.std.proofs.Common.{ℕ, zero, suc, ◌+◌, Bool, true, false, ◌&&◌, ◌||◌, eqb, ltb, List, [], ◌∷◌, length, get_or, drop, ℤ, pos, ◌+ℤ◌, Some, None, Ok, Err, Option, Result, refl}
+use Rattle.std.proofs.Common.{ℕ, zero, suc, ◌+◌, Bool, true, false, ◌&&◌, ◌||◌, eqb, ltb, List, [], ◌∷◌, length, get_or, drop, ℤ, pos, ◌+ℤ◌, Some, None, ok_or, Ok, Err, Option, Result, refl}
+use lib.Signed.{lt_z}
 use Rattle.std.proofs.lemmas.Bool.{cond_both}
 use Rattle.refusal.specs.declared.Refusal.{Refusal}
+use Rattle.refusal.specs.declared.Refusal.TheVariants.{BadControl}
 use Rattle.refusal.specs.Refusals.{Faulty}
-use Rattle.text.specs.declared.Mark.{Mark}
+use Rattle.text.specs.declared.axis.Axis.{Axis}
+use Rattle.text.specs.declared.mark.Mark.{Mark}
 use Rattle.text.specs.declared.conditions.TextConditions.{TextConditions}
 use Rattle.text.specs.declared.control.Control.{Control}
 use Rattle.text.specs.declared.control.Kind.{Kind}
-use Rattle.text.specs.declared.control.Kind.TheVariants.{AbsoluteI, RelativeI, AbsoluteB, RelativeB, SetFont, Transparent, Repeat, RuleI, RuleB}
+use Rattle.text.specs.declared.control.Kind.TheVariants.{Absolute, Relative, SetFont, Transparent, Repeat, Rule}
 use Rattle.text.specs.declared.fault.TextFault.{TextFault}
 use Rattle.text.specs.declared.font.Font.{Font}
 use Rattle.text.specs.declared.step.Step.{Step}
-use Rattle.text.specs.Canvases.{Canvas, Out, out, and_then}
+use Rattle.text.specs.Axes.{usual_width, position}
+use Rattle.text.specs.Canvases.{Canvas, Out, and_then}
 use Rattle.text.specs.Fonts.{font_of}
 use Rattle.text.specs.Steps.{fits, lettered, put, taken, character}
-use Rattle.text.specs.Moves.{place, moved_iby, moved_i, moved_bby, moved_b, fonted_by, fonted}
-use Rattle.text.specs.Rules.{spans, nothing, ruled}
+use Rattle.text.specs.Moves.{place, moved_by, moved, fonted_by, fonted}
+use Rattle.text.specs.Rules.{nothing, on_page, ruled}
 use Rattle.text.specs.Runs.{characters, located_in, located}
 use Rattle.text.specs.Cycles.{cycled}
 use Rattle.text.specs.Controls.{kind_of, sized, named, headed, introduced, control_of, parameters}
 use Rattle.text.specs.Effects.{two, word, width, repeated, effect, succeeded, obeyed}
+use Rattle.text.proofs.Outs.{by_end}
 use Rattle.text.specs.Texts.{begins, Further, controlled, walk, text_of}
 
 abbrev same : Refusal → Refusal
@@ -31,12 +36,8 @@ Told r = Faulty same r
 abbrev pub refusal_of : TextFault → Refusal
 refusal_of f = f.refusal
 
-pub faults_at : {F : Type 0} (of : F → Refusal) (s : Canvas) (q : Result (Unit {0}) F) (more : Canvas → Out F) → Faulty of q → ((r : Canvas) → Faulty of (more r).result) → Faulty of (and_then (out s q) more).result
-faults_at of s (Ok x) more h g = g s
-faults_at of s (Err f) more h g = h
-
 pub faults_then : {F : Type 0} (of : F → Refusal) (o : Out F) (more : Canvas → Out F) → Faulty of o.result → ((r : Canvas) → Faulty of (more r).result) → Faulty of (and_then o more).result
-faults_then of o more h g = faults_at of o.left o.result more h g
+faults_then of o more h g = by_end o more (λ x. Faulty of x.result) (λ t e. g t) (λ f e. h)
 
 faults_put : (m : Option Mark) (t : TextConditions) (s : Canvas) → Told (put m t s).result
 faults_put None t s = tt
@@ -54,45 +55,38 @@ unfolding characters
 faults_characters [] s = tt
 faults_characters (c ∷ cs) s = faults_then same (character c s) (characters cs) (faults_character c s) (faults_characters cs)
 
-faults_i : (o : Option ℕ) (t : TextConditions) → Told (moved_iby o t)
-faults_i None t = refl
-faults_i (Some n) t = tt
+faults_move : (axis : Axis) (o : Result ℕ Refusal) (t : TextConditions) → Told o → Told (moved_by axis o t)
+faults_move axis (Err r) t h = h
+faults_move axis (Ok n) t h = tt
 
-faults_b : (o : Option ℕ) (t : TextConditions) → Told (moved_bby o t)
-faults_b None t = refl
-faults_b (Some n) t = tt
+faults_place : (z : ℤ) → Told (place z)
+faults_place z = cond_both (lt_z z (pos 0) || lt_z (pos 32767) z) _ _ (λ (o : Result ℕ Refusal). Told o) (λ _. refl) (λ _. tt)
 
-faults_font : (o : Option Font) (t : TextConditions) → Told (fonted_by o t)
+faults_font : (o : Option Font) (t : TextConditions) → Told (fonted_by (ok_or o BadControl) t)
 faults_font None t = refl
 faults_font (Some f) t = tt
 
-faults_rule : (kind : ℕ) (inside : Bool) (l w : ℤ) (t : TextConditions) → Told (ruled kind inside l w t)
-faults_rule kind inside l w t =
+faults_rule : (axis : Axis) (inside : Bool) (l w : ℤ) (t : TextConditions) → Told (ruled axis inside l w t)
+faults_rule axis inside l w t =
     cond_both (nothing l || nothing w) _ _ (λ (p : Result Step Refusal). Told p) (λ _. tt) (λ _. cond_both inside _ _ (λ (p : Result Step Refusal). Told p) (λ _. tt) (λ _. refl))
 
 faults_repeated : (n : ℕ) (pattern : List ℕ) (s : Canvas) → Told (repeated n pattern s).result
 faults_repeated n pattern s =
     cond_both (ltb 32767 n || (eqb (length pattern) 0 && ltb 0 n)) _ _ (λ (o : Out Refusal). Told o.result) (λ _. refl) (λ _. faults_characters (cycled n pattern) s)
 
-faults_moved_i : (z : ℤ) (s : Canvas) → Told (taken (moved_i z s.conditions) s).result
-faults_moved_i z s = faults_taken (moved_i z s.conditions) s (faults_i (place z) s.conditions)
+faults_moved : (axis : Axis) (z : ℤ) (s : Canvas) → Told (taken (moved axis z s.conditions) s).result
+faults_moved axis z s = faults_taken (moved axis z s.conditions) s (faults_move axis (place z) s.conditions (faults_place z))
 
-faults_moved_b : (z : ℤ) (s : Canvas) → Told (taken (moved_b z s.conditions) s).result
-faults_moved_b z s = faults_taken (moved_b z s.conditions) s (faults_b (place z) s.conditions)
-
-faults_ruled : (kind : ℕ) (inside : Bool) (l w : ℤ) (s : Canvas) → Told (taken (ruled kind inside l w s.conditions) s).result
-faults_ruled kind inside l w s = faults_taken (ruled kind inside l w s.conditions) s (faults_rule kind inside l w s.conditions)
+faults_ruled : (axis : Axis) (inside : Bool) (l w : ℤ) (s : Canvas) → Told (taken (ruled axis inside l w s.conditions) s).result
+faults_ruled axis inside l w s = faults_taken (ruled axis inside l w s.conditions) s (faults_rule axis inside l w s.conditions)
 
 faults_effect : (k : Kind) (ps : List ℕ) (s : Canvas) → Told (effect k ps s).result
-faults_effect AbsoluteI ps s = faults_moved_i (word ps 0) s
-faults_effect RelativeI ps s = faults_moved_i (pos s.conditions.i +ℤ word ps 0) s
-faults_effect AbsoluteB ps s = faults_moved_b (word ps 0) s
-faults_effect RelativeB ps s = faults_moved_b (pos s.conditions.b +ℤ word ps 0) s
+faults_effect (Absolute axis) ps s = faults_moved axis (word ps 0) s
+faults_effect (Relative axis) ps s = faults_moved axis (pos (position axis s.conditions) +ℤ word ps 0) s
 faults_effect SetFont ps s = faults_taken (fonted (get_or ps 0 0) s.conditions) s (faults_font (font_of (get_or ps 0 0)) s.conditions)
 faults_effect Transparent ps s = faults_characters ps s
 faults_effect Repeat ps s = faults_repeated (two ps 0) (drop 2 ps) s
-faults_effect RuleI ps s = faults_ruled 2 (spans s.conditions.i (word ps 0) 12240 && spans s.conditions.b (width (pos 5) ps) 15840) (word ps 0) (width (pos 5) ps) s
-faults_effect RuleB ps s = faults_ruled 3 (spans s.conditions.b (word ps 0) 15840 && spans s.conditions.i (width (pos 4) ps) 12240) (word ps 0) (width (pos 4) ps) s
+faults_effect (Rule axis) ps s = let w = width (usual_width axis) ps in faults_ruled axis (on_page axis (word ps 0) w s.conditions) (word ps 0) w s
 
 faults_obeyed : (h : Control) (bs : List ℕ) (s : Canvas) → Told (obeyed h bs s).result
 unfolding obeyed

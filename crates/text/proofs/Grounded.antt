@@ -4,13 +4,16 @@ use lib.Signed.{lt_z, le_z}
 use Rattle.std.proofs.lemmas.Bool.{cond_both, ltb-false, leb-false, eqb-false, and_cases, or_cases, or_parts, both_ways}
 use Rattle.refusal.specs.declared.Refusal.{Refusal}
 use Rattle.refusal.specs.declared.Refusal.TheVariants.{Outside, MarksFull}
-use Rattle.text.specs.declared.Mark.{Mark}
+use Rattle.text.specs.declared.axis.Axis.{Axis}
+use Rattle.text.specs.declared.axis.Axis.TheVariants.{Inline, Baseline}
+use Rattle.text.specs.declared.mark.Mark.{Mark}
 use Rattle.text.specs.declared.conditions.TextConditions.{TextConditions}
 use Rattle.text.specs.declared.step.Step.{Step}
+use Rattle.text.specs.Axes.{extent}
 use Rattle.text.specs.Fonts.{advance_of}
 use Rattle.text.specs.Canvases.{Canvas, Out, done, and_then}
 use Rattle.text.specs.Steps.{step, fits, marked, onward, put, taken, character}
-use Rattle.text.specs.Moves.{moved_i, moved_iby, moved_b, moved_bby}
+use Rattle.text.specs.Moves.{moved, moved_by}
 use Rattle.text.specs.Rules.{spans, nothing, bar, ruled}
 use Rattle.text.specs.Runs.{characters}
 use Rattle.text.specs.Grounds.{Unplaced, past_edge, under_page, list_full, Unplaceds, Off, Ruled}
@@ -26,7 +29,7 @@ why_character c s =
     cond_both (fits c t) (Ok (step (cond (eqb c 0x40) None (Some (marked c t))) (onward c t))) (Err Outside) (λ (p : Result Step Refusal). Why (taken p s).result (Unplaced c s))
     (λ _. cond_both (eqb c 0x40) None (Some (marked c t)) (λ (m : Option Mark). Why (put m (onward c t) s).result (Unplaced c s)) (λ _. tt)
     (λ e. why_put (marked c t) (onward c t) s (Unplaced c s) (list_full (eqb-false c 0x40 e))))
-    (λ e. elim (and_cases (leb (t.i + advance_of t.font c) 12240) (leb t.b 15840) e) [ inl p ↦ past_edge (leb-false _ _ p) | inr p ↦ under_page (leb-false _ _ p) ])
+    (λ e. elim (and_cases (leb (t.i + advance_of t.font c) (extent Inline)) (leb t.b (extent Baseline)) e) [ inl p ↦ past_edge (leb-false _ _ p) | inr p ↦ under_page (leb-false _ _ p) ])
 
 -- characters in a row
 first_unplaced : (c : ℕ) (cs : List ℕ) (s : Canvas) (r : Refusal) → Unplaced c s r → Unplaceds (c ∷ cs) s r
@@ -59,13 +62,9 @@ Far z = (z <ℤ pos 0) ⊎ (pos 32767 <ℤ z)
 far : (z : ℤ) → (lt_z z (pos 0) || lt_z (pos 32767) z) ≡ true → Far z
 far z e = elim (or_cases (lt_z z (pos 0)) (lt_z (pos 32767) z) e) [ inl p ↦ inl (less _ _ p) | inr p ↦ inr (less _ _ p) ]
 
-pub why_moved_i : (z : ℤ) (s : Canvas) (P : Refusal → Type 0) → (Far z → P Outside) → Why (taken (moved_i z s.conditions) s).result P
-why_moved_i z s P g =
-    cond_both (lt_z z (pos 0) || lt_z (pos 32767) z) None (Some (nat_abs z)) (λ (o : Option ℕ). Why (taken (moved_iby o s.conditions) s).result P) (λ e. g (far z e)) (λ _. tt)
-
-pub why_moved_b : (z : ℤ) (s : Canvas) (P : Refusal → Type 0) → (Far z → P Outside) → Why (taken (moved_b z s.conditions) s).result P
-why_moved_b z s P g =
-    cond_both (lt_z z (pos 0) || lt_z (pos 32767) z) None (Some (nat_abs z)) (λ (o : Option ℕ). Why (taken (moved_bby o s.conditions) s).result P) (λ e. g (far z e)) (λ _. tt)
+pub why_moved : (axis : Axis) (z : ℤ) (s : Canvas) (P : Refusal → Type 0) → (Far z → P Outside) → Why (taken (moved axis z s.conditions) s).result P
+why_moved axis z s P g =
+    cond_both (lt_z z (pos 0) || lt_z (pos 32767) z) (Err Outside) (Ok (nat_abs z)) (λ (o : Result ℕ Refusal). Why (taken (moved_by axis o s.conditions) s).result P) (λ e. g (far z e)) (λ _. tt)
 
 -- rules
 pub off : (from : ℕ) (by : ℤ) (limit : ℕ) → spans from by limit ≡ false → Off from by limit
@@ -78,12 +77,12 @@ off from by limit e =
 some : (z : ℤ) → nothing z ≡ false → z ≡ pos 0 → ⊥
 some z e is = both_ways (nothing z) e (ap nothing is)
 
-pub why_ruled : (kind : ℕ) (inside : Bool) (l w : ℤ) (s : Canvas) (P : Refusal → Type 0) → (Ruled l w → inside ≡ false → P Outside) → (Ruled l w → length s.marks ≤ s.count → P MarksFull) → Why (taken (ruled kind inside l w s.conditions) s).result P
-why_ruled kind inside l w s P out_of_lem full =
+pub why_ruled : (axis : Axis) (inside : Bool) (l w : ℤ) (s : Canvas) (P : Refusal → Type 0) → (Ruled l w → inside ≡ false → P Outside) → (Ruled l w → length s.marks ≤ s.count → P MarksFull) → Why (taken (ruled axis inside l w s.conditions) s).result P
+why_ruled axis inside l w s P out_of_lem full =
     let t = s.conditions in
-    cond_both (nothing l || nothing w) (Ok (step None t)) (cond inside (Ok (step (Some (bar kind l w t)) t)) (Err Outside)) (λ (p : Result Step Refusal). Why (taken p s).result P) (λ _. tt)
+    cond_both (nothing l || nothing w) (Ok (step None t)) (cond inside (Ok (step (Some (bar axis l w t)) t)) (Err Outside)) (λ (p : Result Step Refusal). Why (taken p s).result P) (λ _. tt)
     (λ e.
     let n = or_parts (nothing l) (nothing w) e in
     let some_of : Ruled l w = record { long = some l n.0; wide = some w n.1 } in
-    cond_both inside (Ok (step (Some (bar kind l w t)) t)) (Err Outside) (λ (p : Result Step Refusal). Why (taken p s).result P)
-    (λ _. why_put (bar kind l w t) t s P (full some_of)) (λ i. out_of_lem some_of i))
+    cond_both inside (Ok (step (Some (bar axis l w t)) t)) (Err Outside) (λ (p : Result Step Refusal). Why (taken p s).result P)
+    (λ _. why_put (bar axis l w t) t s P (full some_of)) (λ i. out_of_lem some_of i))

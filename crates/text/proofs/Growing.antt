@@ -1,24 +1,26 @@
 -- Every piece of text only adds marks.
-use Rattle.std.proofs.Common.{◌≡◌, ℕ, zero, suc, ◌+◌, ◌-◌, ◌<◌, Bool, false, ◌&&◌, ◌||◌, eqb, ltb, List, [], ◌∷◌, length, get_or, take, drop, set, pos, ◌+ℤ◌, Some, None, Ok, Err, Option, Result, sym, refl, ap, ◌∙◌, arith}
+use Rattle.std.proofs.Common.{◌≡◌, ℕ, zero, suc, ◌+◌, ◌-◌, ◌<◌, Bool, false, ◌&&◌, ◌||◌, eqb, ltb, List, [], ◌∷◌, length, get_or, take, drop, set, pos, ◌+ℤ◌, Some, None, Ok, Err, Option, Result, sym, refl, ap, ◌∙◌, subst, arith}
 use Rattle.std.proofs.lemmas.List.{length-set, take-set-le, take-take, drop-set-lt, drop-drop}
 use Rattle.std.proofs.lemmas.Bool.{cond_both, ltb-true}
 use Rattle.refusal.specs.declared.Refusal.{Refusal}
 use Rattle.refusal.specs.declared.Refusal.TheVariants.{BadControl}
-use Rattle.text.specs.declared.Mark.{Mark}
+use Rattle.text.specs.declared.mark.Mark.{Mark}
 use Rattle.text.specs.declared.conditions.TextConditions.{TextConditions}
 use Rattle.text.specs.declared.control.Kind.{Kind}
-use Rattle.text.specs.declared.control.Kind.TheVariants.{AbsoluteI, RelativeI, AbsoluteB, RelativeB, SetFont, Transparent, Repeat, RuleI, RuleB}
+use Rattle.text.specs.declared.control.Kind.TheVariants.{Absolute, Relative, SetFont, Transparent, Repeat, Rule}
 use Rattle.text.specs.declared.control.Control.{Control}
 use Rattle.text.specs.declared.fault.TextFault.{TextFault}
 use Rattle.text.specs.declared.step.Step.{Step}
-use Rattle.text.specs.Canvases.{Canvas, canvas, Out, out, done, refused, and_then, Grows}
+use Rattle.text.specs.Axes.{usual_width, position}
+use Rattle.text.specs.Canvases.{Canvas, canvas, Out, done, refused, and_then, Grows}
 use Rattle.text.specs.Steps.{lettered, put, taken, character}
 use Rattle.text.specs.Runs.{located, characters}
 use Rattle.text.specs.Cycles.{cycled}
 use Rattle.text.specs.Controls.{control_of, parameters}
 use Rattle.text.specs.Effects.{two, word, width, repeated, effect, succeeded, obeyed}
-use Rattle.text.specs.Moves.{moved_i, moved_b, fonted}
-use Rattle.text.specs.Rules.{rule_i, rule_b}
+use Rattle.text.specs.Moves.{moved, fonted}
+use Rattle.text.specs.Rules.{rule}
+use Rattle.text.proofs.Outs.{by_end}
 use Rattle.text.specs.Texts.{Further, begins, controlled, walk, text_of}
 
 pub stays : (s : Canvas) → Grows s s
@@ -57,12 +59,8 @@ pub grows_taken : (p : Result Step Refusal) (s : Canvas) → Grows s (taken p s)
 grows_taken (Ok p) s = grows_put p.mark p.next s
 grows_taken (Err r) s = stays s
 
-grows_at : {F : Type 0} (s r : Canvas) (q : Result (Unit {0}) F) (more : Canvas → Out F) → Grows s r → ((r : Canvas) → Grows r (more r).left) → Grows s (and_then (out r q) more).left
-grows_at s r (Ok x) more h g = along s r _ h (g r)
-grows_at s r (Err e) more h g = h
-
 grows_then : {F : Type 0} (s : Canvas) (o : Out F) (more : Canvas → Out F) → Grows s o.left → ((r : Canvas) → Grows r (more r).left) → Grows s (and_then o more).left
-grows_then s o more h g = grows_at s o.left o.result more h g
+grows_then {F} s o more h g = by_end o more (λ x. Grows s x.left) (λ t e. along s t (more t).left (subst (λ (x : Out F). Grows s x.left) e h) (g t)) (λ f e. h)
 
 grows_characters : (cs : List ℕ) (s : Canvas) → Grows s (characters cs s).left
 unfolding characters
@@ -74,15 +72,12 @@ grows_repeated n p s =
     cond_both (ltb 32767 n || (eqb (length p) 0 && ltb 0 n)) (refused BadControl s) (characters (cycled n p) s) (λ (o : Out Refusal). Grows s o.left) (λ _. stays s) (λ _. grows_characters (cycled n p) s)
 
 grows_effect : (k : Kind) (ps : List ℕ) (s : Canvas) → Grows s (effect k ps s).left
-grows_effect AbsoluteI ps s = grows_taken (moved_i (word ps 0) s.conditions) s
-grows_effect RelativeI ps s = grows_taken (moved_i (pos s.conditions.i +ℤ word ps 0) s.conditions) s
-grows_effect AbsoluteB ps s = grows_taken (moved_b (word ps 0) s.conditions) s
-grows_effect RelativeB ps s = grows_taken (moved_b (pos s.conditions.b +ℤ word ps 0) s.conditions) s
+grows_effect (Absolute axis) ps s = grows_taken (moved axis (word ps 0) s.conditions) s
+grows_effect (Relative axis) ps s = grows_taken (moved axis (pos (position axis s.conditions) +ℤ word ps 0) s.conditions) s
 grows_effect SetFont ps s = grows_taken (fonted (get_or ps 0 0) s.conditions) s
 grows_effect Transparent ps s = grows_characters ps s
 grows_effect Repeat ps s = grows_repeated (two ps 0) (drop 2 ps) s
-grows_effect RuleI ps s = grows_taken (rule_i (word ps 0) (width (pos 5) ps) s.conditions) s
-grows_effect RuleB ps s = grows_taken (rule_b (word ps 0) (width (pos 4) ps) s.conditions) s
+grows_effect (Rule axis) ps s = grows_taken (rule axis (word ps 0) (width (usual_width axis) ps) s.conditions) s
 
 pub grows_obeyed : (h : Control) (bs : List ℕ) (s : Canvas) → Grows s (obeyed h bs s).left
 unfolding obeyed

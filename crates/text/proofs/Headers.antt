@@ -1,15 +1,11 @@
 -- The header of a control: it lies within the bytes that it is read from.
-use Rattle.std.proofs.Common.{◌≡◌, ℕ, ◌+◌, ◌-◌, ◌≤◌, Bool, true, false, ◌||◌, eqb, ltb, List, [], ◌∷◌, length, get_or, drop, IfOk, Some, None, Option, Result, sym, ap, ◌∙◌, subst, arith}
-use Rattle.std.proofs.lemmas.Bool.{cond-true, eq-eqb, cond_both, or_parts, ltb-false}
+use Rattle.std.proofs.Common.{◌≡◌, ℕ, ◌+◌, ◌-◌, ◌≤◌, Bool, true, false, ◌||◌, eqb, ltb, List, [], ◌∷◌, length, IfOk, Some, None, Ok, Err, Option, Result, ap, ◌∙◌, subst, arith}
+use Rattle.std.proofs.lemmas.Bool.{cond_both, or_parts, ltb-false}
 use Rattle.refusal.specs.declared.Refusal.{Refusal}
 use Rattle.text.specs.declared.control.Kind.{Kind}
 use Rattle.text.specs.declared.control.Control.{Control}
+use Rattle.text.specs.Runs.{located_in}
 use Rattle.text.specs.Controls.{kind_of, sized, named, headed, introduced, control_of, Whole}
-
-pub introduced_at : (bs rest : List ℕ) (r : Result Control Refusal) → 2 ≤ length bs → get_or bs 1 0 ≡ 0xD3 → rest ≡ drop 2 bs → r ≡ headed 2 rest → r ≡ introduced bs
-introduced_at [] rest r h e is e' = absurd (omega arith)
-introduced_at (a ∷ []) rest r h e is e' = absurd (omega arith)
-introduced_at (a ∷ b ∷ bs) rest r h e is e' = e' ∙ ap (headed 2) is ∙ sym (cond-true _ _ _ (eq-eqb _ _ e))
 
 abbrev Good : ℕ → Result Control Refusal → Type 0
 Good n r = IfOk r (Whole n)
@@ -40,3 +36,7 @@ introduced_good (a ∷ b ∷ bs) =
 pub control_good : (chained : Bool) (bs : List ℕ) → Good (length bs) (control_of chained bs)
 control_good true bs = let e : 0 + length bs ≡ length bs = omega arith in subst (λ n. Good n (headed 0 bs)) e (headed_good 0 bs)
 control_good false bs = introduced_good bs
+
+pub located_good : (at n : ℕ) (r : Result Control Refusal) → IfOk r (Whole n) → IfOk (located_in at r) (Whole n)
+located_good at n (Ok h) w = w
+located_good at n (Err f) w = tt

@@ -16,6 +16,7 @@ use Rattle.text.specs.Grounds as grounds
 use Rattle.text.specs.Grounds.{Unplaced, Misheaded, Unobeyed, misheaded, Ground}
 use Rattle.text.specs.Judging as judging
 use Rattle.text.specs.Judging.{Reach, here, Refuses, Judged}
+use Rattle.text.proofs.Outs.{ok_or_err}
 use Rattle.text.proofs.Why.{Why, weaker}
 use Rattle.text.proofs.Grounded.{why_character}
 use Rattle.text.proofs.Refusing.{why_control, why_obeyed}
@@ -71,11 +72,9 @@ past_control c at b bs s t l h (Err f) w n e did j =
 -- a control that is done and ends the bytes is not chained
 never_done : (s : Canvas) (r : Result (Unit {0}) Refusal) (more : Canvas → Out Refusal) (t : Canvas) → ((x : Canvas) → more x ≡ refused BadControl x) → and_then (out s r) more ≡ done t → ⊥
 never_done s (Ok x) more t m e =
-    let i : Err BadControl ≡ Ok tt = ap (λ (o : Out Refusal). o.result) (sym (m s) ∙ e) in
-    let z : ◌≡◌ {A = ℕ} 0 1 = cc in omega arith
+    ok_or_err _ _ (sym (ap (λ (o : Out Refusal). o.result) (sym (m s) ∙ e)))
 never_done s (Err f) more t m e =
-    let i : Err f ≡ Ok tt = ap (λ (o : Out Refusal). o.result) e in
-    let z : ◌≡◌ {A = ℕ} 0 1 = cc in omega arith
+    ok_or_err _ _ (sym (ap (λ (o : Out Refusal). o.result) e))
 
 done_free : (h : Control) (bs : List ℕ) (s t : Canvas) → obeyed h bs s ≡ done t → length bs ≡ h.end → h.chained ≡ false
 unfolding obeyed

@@ -40,12 +40,8 @@ reach_same c at (b ∷ bs) s (judging.controlled {t = t} h n e did more) =
 abbrev RefusedAt : ℕ → Out TextFault → Type 0
 RefusedAt at o = (r : Refusal) × (o.result ≡ Err (fault r at))
 
-refused_at : (at : ℕ) (s : Canvas) (r : Result (Unit {0}) Refusal) (more : Canvas → Out TextFault) → Bad r → RefusedAt at (and_then (located at (out s r)) more)
-refused_at at s (Ok x) more b = absurd (let i : Ok x ≡ Err b.0 = b.1 in let z : ◌≡◌ {A = ℕ} 0 1 = cc in omega arith)
-refused_at at s (Err r) more b = (r, refl)
-
 refused_then : (at : ℕ) (o : Out Refusal) (more : Canvas → Out TextFault) → Fails o → RefusedAt at (and_then (located at o) more)
-refused_then at o more b = refused_at at o.left o.result more b
+refused_then at o more b = (b.0, ap (λ r. (and_then (located at (out o.left r)) more).result) b.1)
 
 refused_since : (at : ℕ) (o o' : Out TextFault) → o ≡ o' → RefusedAt at o' → RefusedAt at o
 refused_since at o o' e b = subst (RefusedAt at) (sym e) b

@@ -1,17 +1,24 @@
 -- The characters before the next control.
-use Rattle.std.proofs.Common.{◌≡◌, ℕ, suc, ◌+◌, ◌<◌, ◌≤◌, true, false, List, [], ◌∷◌, length, get_or, drop, arith}
-use Rattle.std.proofs.lemmas.List.{at_drop_more, at_drop_all}
-use Rattle.std.proofs.lemmas.Bool.{cond-true, cond-false}
+use Rattle.std.proofs.Common.{◌≡◌, ℕ, suc, ◌+◌, ◌<◌, Bool, true, false, cond, not, ltb, List, [], ◌∷◌, length, get_or, Some, None, Option, refl, arith}
+use Rattle.std.specs.List.{position, position_or_len}
+use Rattle.std.specs.Option.{unwrap_or}
+use Rattle.std.proofs.lemmas.List.Sums.{prefix_len-le-length}
+use Rattle.std.proofs.lemmas.Bool.{cond_both, cond-false, ltb-false}
 use Rattle.text.specs.Texts.{begins, plain}
 
-pub plain_found : (bs : List ℕ) (k : ℕ) → k < length bs → begins false (get_or bs k 0) ≡ true → k + plain (drop k bs) ≡ plain bs → k ≡ plain bs
-plain_found bs k h e inv = omega (arith, at_drop_more plain bs k 0 h, cond-true (begins false (get_or bs k 0)) 0 (suc (plain (drop (k + 1) bs))) e)
+turned : (t : Bool) (m n : ℕ) → m ≡ n → cond (not t) (1 + m) 0 ≡ cond t 0 (suc n)
+turned true m n e = refl
+turned false m n e = omega arith
 
-pub plain_more : (bs : List ℕ) (k : ℕ) → k < length bs → begins false (get_or bs k 0) ≡ false → k + plain (drop k bs) ≡ plain bs → k + 1 + plain (drop (k + 1) bs) ≡ plain bs
-plain_more bs k h e inv = omega (arith, at_drop_more plain bs k 0 h, cond-false (begins false (get_or bs k 0)) 0 (suc (plain (drop (k + 1) bs))) e)
+plain_first : (bs : List ℕ) → position_or_len (begins false) bs ≡ plain bs
+plain_first [] = refl
+plain_first (b ∷ bs) = turned (begins false b) _ _ (plain_first bs)
 
-pub plain_all : (bs : List ℕ) (k : ℕ) → length bs ≤ k → k + plain (drop k bs) ≡ plain bs → k ≡ plain bs
-plain_all bs k h inv = omega (arith, at_drop_all plain bs k h)
+-- the place of the next control, or the end
+pub plain_position : (bs : List ℕ) → unwrap_or (position (begins false) bs) (length bs) ≡ plain bs
+plain_position bs =
+    cond_both (ltb (position_or_len (begins false) bs) (length bs)) (Some (position_or_len (begins false) bs)) None (λ (o : Option ℕ). unwrap_or o (length bs) ≡ plain bs) (λ _. plain_first bs)
+    (λ e. omega (arith, plain_first bs, prefix_len-le-length (λ b. not (begins false b)) bs, ltb-false _ _ e))
 
 pub plain_some : (bs : List ℕ) → 0 < length bs → begins false (get_or bs 0 0) ≡ false → 0 < plain bs
 plain_some [] h e = absurd (omega arith)

@@ -1,13 +1,14 @@
 -- Each refusal of a control has its ground: its header, its parameters, or its missing successor.
-use Rattle.std.proofs.Common.{◌≡◌, ℕ, ◌+◌, ◌%◌, ◌<◌, Bool, true, false, cond, ◌&&◌, ◌||◌, eqb, ltb, ◌⊎◌, List, [], ◌∷◌, length, get_or, drop, pos, ◌+ℤ◌, Some, None, Ok, Err, Option, Result, sym, refl, ap, ◌∙◌, inl, inr, arith}
+use Rattle.std.proofs.Common.{◌≡◌, ℕ, ◌+◌, ◌%◌, ◌<◌, Bool, true, false, cond, ◌&&◌, ◌||◌, eqb, ltb, ◌⊎◌, List, [], ◌∷◌, length, get_or, drop, pos, ◌+ℤ◌, Some, None, ok_or, Ok, Err, Option, Result, sym, refl, ap, ◌∙◌, inl, inr, arith}
 use Rattle.std.proofs.lemmas.Bool.{cond_both, cases_lt, ltb-true, eqb-true, eqb-false, and_cases, and_parts, or_cases}
 use Rattle.refusal.specs.declared.Refusal.{Refusal}
 use Rattle.refusal.specs.declared.Refusal.TheVariants.{ControlLength, BadControl}
 use Rattle.text.specs.declared.font.Font.{Font}
 use Rattle.text.specs.declared.font.Font.TheVariants.{Ten, Twelve, Fifteen}
 use Rattle.text.specs.declared.control.Kind.{Kind}
-use Rattle.text.specs.declared.control.Kind.TheVariants.{AbsoluteI, RelativeI, AbsoluteB, RelativeB, SetFont, Transparent, Repeat, RuleI, RuleB}
+use Rattle.text.specs.declared.control.Kind.TheVariants.{Absolute, Relative, SetFont, Transparent, Repeat, Rule}
 use Rattle.text.specs.declared.control.Control.{Control}
+use Rattle.text.specs.Axes.{across, extent, usual_width, position}
 use Rattle.text.specs.Canvases.{Canvas, Out, done, refused}
 use Rattle.text.specs.Steps.{taken}
 use Rattle.text.specs.Moves.{fonted, fonted_by}
@@ -16,9 +17,9 @@ use Rattle.text.specs.Runs.{characters}
 use Rattle.text.specs.Cycles.{cycled}
 use Rattle.text.specs.Controls.{kind_of, sized, named, control, headed, control_of, parameters}
 use Rattle.text.specs.Effects.{two, word, width, repeated, effect, succeeded, obeyed}
-use Rattle.text.specs.Grounds.{body_of, Misheaded, not_introduced, no_length, too_short, too_long, not_its_length, unknown, Unplaceds, Unperformed, no_position, no_font, letters, too_many, no_pattern, repetitions, off_page_i, off_page_b, list_full_i, list_full_b, Unobeyed, unperformed, no_successor}
+use Rattle.text.specs.Grounds.{body_of, Misheaded, not_introduced, no_length, too_short, too_long, not_its_length, unknown, Unplaceds, Unperformed, no_position, no_font, letters, too_many, no_pattern, repetitions, off_page, rule_unplaced, Unobeyed, unperformed, no_successor}
 use Rattle.text.proofs.Why.{Why, why_then, weaker}
-use Rattle.text.proofs.Grounded.{why_characters, why_moved_i, why_moved_b, off, why_ruled}
+use Rattle.text.proofs.Grounded.{why_characters, why_moved, off, why_ruled}
 
 why_named : (c : Bool) (bs : List ℕ) (before size type : ℕ) (more : List ℕ) → body_of c bs ≡ size ∷ type ∷ more → (o : Option Kind) → kind_of type ≡ o → Why (named before o size type) (Misheaded c bs)
 why_named c bs before size type more is None e =
@@ -52,7 +53,7 @@ none_of n a b c = elim (cases_lt 3 n) [ inl p ↦ inr p | inr p ↦ inl (omega a
 
 why_fonted : (n : ℕ) (s : Canvas) (P : Refusal → Type 0) → ((n ≡ 0) ⊎ (3 < n) → P BadControl) → Why (taken (fonted n s.conditions) s).result P
 why_fonted n s P g =
-    let Q : Option Font → Type 0 = λ o. Why (taken (fonted_by o s.conditions) s).result P in
+    let Q : Option Font → Type 0 = λ o. Why (taken (fonted_by (ok_or o BadControl) s.conditions) s).result P in
     cond_both (eqb n 1) (Some Ten) (cond (eqb n 2) (Some Twelve) (cond (eqb n 3) (Some Fifteen) None)) Q (λ _. tt)
     (λ a. cond_both (eqb n 2) (Some Twelve) (cond (eqb n 3) (Some Fifteen) None) Q (λ _. tt)
     (λ b. cond_both (eqb n 3) (Some Fifteen) None Q (λ _. tt) (λ c. g (none_of n (eqb-false n 1 a) (eqb-false n 2 b) (eqb-false n 3 c)))))
@@ -69,23 +70,17 @@ why_repeated ps s =
     (λ _. weaker (characters (cycled n p) s).result (Unplaceds (cycled n p) s) (Unperformed Repeat ps s) (λ r u. repetitions refl u) (why_characters (cycled n p) s))
 
 why_effect : (k : Kind) (ps : List ℕ) (s : Canvas) → Why (effect k ps s).result (Unperformed k ps s)
-why_effect AbsoluteI ps s = why_moved_i (word ps 0) s (Unperformed AbsoluteI ps s) (no_position refl)
-why_effect RelativeI ps s = why_moved_i (pos s.conditions.i +ℤ word ps 0) s (Unperformed RelativeI ps s) (no_position refl)
-why_effect AbsoluteB ps s = why_moved_b (word ps 0) s (Unperformed AbsoluteB ps s) (no_position refl)
-why_effect RelativeB ps s = why_moved_b (pos s.conditions.b +ℤ word ps 0) s (Unperformed RelativeB ps s) (no_position refl)
+why_effect (Absolute axis) ps s = why_moved axis (word ps 0) s (Unperformed (Absolute axis) ps s) (no_position refl)
+why_effect (Relative axis) ps s = why_moved axis (pos (position axis s.conditions) +ℤ word ps 0) s (Unperformed (Relative axis) ps s) (no_position refl)
 why_effect SetFont ps s = why_fonted (get_or ps 0 0) s (Unperformed SetFont ps s) (no_font refl)
 why_effect Transparent ps s = weaker (characters ps s).result (Unplaceds ps s) (Unperformed Transparent ps s) (λ r u. letters refl u) (why_characters ps s)
 why_effect Repeat ps s = why_repeated ps s
-why_effect RuleI ps s =
-    let x = spans s.conditions.i (word ps 0) 12240 in
-    let y = spans s.conditions.b (width (pos 5) ps) 15840 in
-    why_ruled 2 (x && y) (word ps 0) (width (pos 5) ps) s (Unperformed RuleI ps s)
-    (λ some e. off_page_i refl some (elim (and_cases x y e) [ inl p ↦ inl (off _ _ _ p) | inr p ↦ inr (off _ _ _ p) ])) (list_full_i refl)
-why_effect RuleB ps s =
-    let x = spans s.conditions.b (word ps 0) 15840 in
-    let y = spans s.conditions.i (width (pos 4) ps) 12240 in
-    why_ruled 3 (x && y) (word ps 0) (width (pos 4) ps) s (Unperformed RuleB ps s)
-    (λ some e. off_page_b refl some (elim (and_cases x y e) [ inl p ↦ inl (off _ _ _ p) | inr p ↦ inr (off _ _ _ p) ])) (list_full_b refl)
+why_effect (Rule axis) ps s =
+    let w = width (usual_width axis) ps in
+    let x = spans (position axis s.conditions) (word ps 0) (extent axis) in
+    let y = spans (position (across axis) s.conditions) w (extent (across axis)) in
+    why_ruled axis (x && y) (word ps 0) w s (Unperformed (Rule axis) ps s)
+    (λ some e. off_page refl some (elim (and_cases x y e) [ inl p ↦ inl (off _ _ _ p) | inr p ↦ inr (off _ _ _ p) ])) (rule_unplaced refl)
 
 pub why_obeyed : (c : Bool) (bs : List ℕ) (s : Canvas) (h : Control) → control_of c bs ≡ Ok h → Why (obeyed h bs s).result (Unobeyed c bs s)
 unfolding obeyed

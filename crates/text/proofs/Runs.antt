@@ -5,7 +5,7 @@ use Rattle.refusal.specs.declared.Refusal.{Refusal}
 use Rattle.text.specs.declared.fault.TextFault.{TextFault}
 use Rattle.text.specs.Canvases.{Canvas, Out, out, done, and_then}
 use Rattle.text.specs.Steps.{character}
-use Rattle.text.specs.Runs.{fault, located, characters, run}
+use Rattle.text.specs.Runs.{located_in, located, characters, run}
 
 -- what is left of a run at the character k
 at_run : (cs : List ℕ) (at k : ℕ) (s : Canvas) (o : Out Refusal) → k < length cs → o ≡ character (get_or cs k 0) s → and_then (located (at + k) o) (run (at + k + 1) (drop (k + 1) cs)) ≡ run (at + k) (drop k cs) s
@@ -13,14 +13,15 @@ unfolding run
 at_run cs at k s o h e =
     ap (λ o. and_then (located (at + k) o) (run (at + k + 1) (drop (k + 1) cs))) e ∙ sym (at_drop_more (λ l. run (at + k) l s) cs k 0 h)
 
-pub run_on : (cs : List ℕ) (at k : ℕ) (s s' : Canvas) (r : Result (Unit {0}) Refusal) (end : Out TextFault) → k < length cs → out s' r ≡ character (get_or cs k 0) s → r ≡ Ok tt → run (at + k) (drop k cs) s ≡ end → run (at + (k + 1)) (drop (k + 1) cs) s' ≡ end
-run_on cs at k s s' r end h e was inv =
+-- the same with the refusal q of the character told at its offset
+pub run_on : (cs : List ℕ) (at k : ℕ) (s s' : Canvas) (r : Result (Unit {0}) Refusal) (q : Result (Unit {0}) TextFault) (end : Out TextFault) → k < length cs → out s' r ≡ character (get_or cs k 0) s → q ≡ located_in (at + k) r → q ≡ Ok tt → run (at + k) (drop k cs) s ≡ end → run (at + (k + 1)) (drop (k + 1) cs) s' ≡ end
+run_on cs at k s s' r q end h e is was inv =
     ap (λ n. run n (drop (k + 1) cs) s') (sym (add_assoc at k 1))
-    ∙ ap (λ q. and_then (located (at + k) (out s' q)) (run (at + k + 1) (drop (k + 1) cs))) (sym was) ∙ at_run cs at k s _ h e ∙ inv
+    ∙ ap (λ q. and_then (out s' q) (run (at + k + 1) (drop (k + 1) cs))) (sym was ∙ is) ∙ at_run cs at k s _ h e ∙ inv
 
-pub run_off : (cs : List ℕ) (at k : ℕ) (s s' : Canvas) (r : Result (Unit {0}) Refusal) (f : Refusal) (g : TextFault) (end : Out TextFault) → k < length cs → out s' r ≡ character (get_or cs k 0) s → r ≡ Err f → g ≡ fault f (at + k) → run (at + k) (drop k cs) s ≡ end → out s' (Err g) ≡ end
-run_off cs at k s s' r f g end h e was is inv =
-    ap (λ (x : TextFault). out s' (Err x)) is ∙ ap (λ q. and_then (located (at + k) (out s' q)) (run (at + k + 1) (drop (k + 1) cs))) (sym was) ∙ at_run cs at k s _ h e ∙ inv
+pub run_off : (cs : List ℕ) (at k : ℕ) (s s' : Canvas) (r : Result (Unit {0}) Refusal) (q : Result (Unit {0}) TextFault) (g : TextFault) (end : Out TextFault) → k < length cs → out s' r ≡ character (get_or cs k 0) s → q ≡ located_in (at + k) r → q ≡ Err g → run (at + k) (drop k cs) s ≡ end → out s' (Err g) ≡ end
+run_off cs at k s s' r q g end h e is was inv =
+    ap (λ q. and_then (out s' q) (run (at + k + 1) (drop (k + 1) cs))) (sym was ∙ is) ∙ at_run cs at k s _ h e ∙ inv
 
 pub run_end : (cs : List ℕ) (at k : ℕ) (s : Canvas) (end : Out TextFault) → length cs ≤ k → run at (drop k cs) s ≡ end → done s ≡ end
 unfolding run

@@ -1,20 +1,17 @@
 -- What is refused is refused for a reason: the reason of one piece of work after another.
-use Rattle.std.proofs.Common.{◌≡◌, Bool, true, false, T, ℤ, ◌<ℤ◌, Ok, Err, Result, sym, refl, subst}
+use Rattle.std.proofs.Common.{◌≡◌, Bool, true, false, T, ℤ, ◌<ℤ◌, Ok, Err, Result, sym, subst}
 use lib.Signed.{lt_z, le_z, lt_z_yes}
 use Rattle.std.proofs.lemmas.Int.{by_lt_z}
-use Rattle.text.specs.Canvases.{Canvas, Out, out, done, and_then}
+use Rattle.text.specs.Canvases.{Canvas, Out, done, and_then}
+use Rattle.text.proofs.Outs.{by_end}
 
 -- what is told of a refusal satisfies P
 abbrev pub Why : {A F : Type 0} → Result A F → (F → Type 0) → Type 0
 Why (Ok x) P = Unit {0}
 Why (Err f) P = P f
 
-why_at : {F : Type 0} (s : Canvas) (r : Result (Unit {0}) F) (more : Canvas → Out F) (P : F → Type 0) → Why r P → ((t : Canvas) → out s r ≡ done t → Why (more t).result P) → Why (and_then (out s r) more).result P
-why_at s (Ok x) more P h g = g s refl
-why_at s (Err f) more P h g = h
-
 pub why_then : {F : Type 0} (o : Out F) (more : Canvas → Out F) (P : F → Type 0) → Why o.result P → ((t : Canvas) → o ≡ done t → Why (more t).result P) → Why (and_then o more).result P
-why_then o more P h g = why_at o.left o.result more P h g
+why_then o more P h g = by_end o more (λ x. Why x.result P) g (λ f e. h)
 
 pub less : (a b : ℤ) → lt_z a b ≡ true → a <ℤ b
 less a b e = lt_z_yes (subst T (sym e) tt)

@@ -1,5 +1,6 @@
 -- The marks of a page with the text conditions, and how a piece of work leaves them.
 --   Canvas     a list of places for marks, how many of its places are in use, and the text conditions
+--   canvas_of  the canvas that a writer writes on
 --   starting   the conditions as a page begins
 --   Out        a canvas as it is left, and how the work ended; F is what is told of a refusal
 --   done       the work ended well
@@ -7,9 +8,10 @@
 --   and_then    further work, unless what came before was refused
 --   Grows      s has the marks of r and maybe more after them, and nothing else of the list is changed
 use Rattle.std.specs.Prelude.{◌≡◌, ℕ, ◌≤◌, List, length, take, drop, Ok, Err, Result}
-use Rattle.text.specs.declared.Mark.{Mark}
+use Rattle.text.specs.declared.mark.Mark.{Mark}
 use Rattle.text.specs.declared.font.Font.TheVariants.{Ten}
 use Rattle.text.specs.declared.conditions.TextConditions.{TextConditions}
+use Rattle.text.specs.declared.writer.Writer.{Writer}
 
 pub record Canvas : Type 0 where
   pub marks : List Mark
@@ -18,6 +20,9 @@ pub record Canvas : Type 0 where
 
 abbrev pub canvas : List Mark → ℕ → TextConditions → Canvas
 canvas ms n t = record { marks = ms; count = n; conditions = t }
+
+abbrev pub canvas_of : Writer → Canvas
+canvas_of w = canvas w.marks.now w.count w.conditions
 
 abbrev pub starting : TextConditions
 starting = record { i = 0; b = 0; font = Ten }

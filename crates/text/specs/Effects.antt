@@ -12,12 +12,13 @@ use Rattle.std.proofs.Common.{to_z}
 use Rattle.refusal.specs.declared.Refusal.{Refusal}
 use Rattle.refusal.specs.declared.Refusal.TheVariants.{BadControl}
 use Rattle.text.specs.declared.control.Kind.{Kind}
-use Rattle.text.specs.declared.control.Kind.TheVariants.{AbsoluteI, RelativeI, AbsoluteB, RelativeB, SetFont, Transparent, Repeat, RuleI, RuleB}
+use Rattle.text.specs.declared.control.Kind.TheVariants.{Absolute, Relative, SetFont, Transparent, Repeat, Rule}
 use Rattle.text.specs.declared.control.Control.{Control}
+use Rattle.text.specs.Axes.{usual_width, position}
 use Rattle.text.specs.Canvases.{Canvas, Out, done, refused, and_then}
 use Rattle.text.specs.Steps.{taken}
-use Rattle.text.specs.Moves.{moved_i, moved_b, fonted}
-use Rattle.text.specs.Rules.{rule_i, rule_b}
+use Rattle.text.specs.Moves.{moved, fonted}
+use Rattle.text.specs.Rules.{rule}
 use Rattle.text.specs.Runs.{characters}
 use Rattle.text.specs.Cycles.{cycled}
 use Rattle.text.specs.Controls.{parameters}
@@ -36,15 +37,12 @@ repeated n pattern s =
     cond (nat_lt 32767 n || (length pattern == 0 && nat_lt 0 n)) (refused BadControl s) (characters (cycled n pattern) s)
 
 abbrev pub effect : Kind → List ℕ → Canvas → Out Refusal
-effect AbsoluteI ps s = taken (moved_i (word ps 0) s.conditions) s
-effect RelativeI ps s = taken (moved_i (pos s.conditions.i +ℤ word ps 0) s.conditions) s
-effect AbsoluteB ps s = taken (moved_b (word ps 0) s.conditions) s
-effect RelativeB ps s = taken (moved_b (pos s.conditions.b +ℤ word ps 0) s.conditions) s
+effect (Absolute axis) ps s = taken (moved axis (word ps 0) s.conditions) s
+effect (Relative axis) ps s = taken (moved axis (pos (position axis s.conditions) +ℤ word ps 0) s.conditions) s
 effect SetFont ps s = taken (fonted (slice_index ps 0) s.conditions) s
 effect Transparent ps s = characters ps s
 effect Repeat ps s = repeated (two ps 0) (drop 2 ps) s
-effect RuleI ps s = taken (rule_i (word ps 0) (width (pos 5) ps) s.conditions) s
-effect RuleB ps s = taken (rule_b (word ps 0) (width (pos 4) ps) s.conditions) s
+effect (Rule axis) ps s = taken (rule axis (word ps 0) (width (usual_width axis) ps) s.conditions) s
 
 abbrev pub succeeded : Control → List ℕ → Canvas → Out Refusal
 succeeded h bs s = cond (h.chained && length bs == h.end) (refused BadControl s) (done s)

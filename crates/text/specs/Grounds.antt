@@ -10,10 +10,13 @@
 use Rattle.std.specs.Prelude.{◌≡◌, ℕ, ◌+◌, ◌<◌, ◌≤◌, Bool, true, false, ◌⊎◌, List, ◌∷◌, ◌++◌, length, drop, ℤ, pos, ◌+ℤ◌, ◌<ℤ◌, Some, None, Ok, Option, ◌≢◌, slice_index}
 use Rattle.refusal.specs.declared.Refusal.{Refusal}
 use Rattle.refusal.specs.declared.Refusal.TheVariants.{ControlLength, BadControl, Outside, MarksFull}
+use Rattle.text.specs.declared.axis.Axis.{Axis}
+use Rattle.text.specs.declared.axis.Axis.TheVariants.{Inline, Baseline}
 use Rattle.text.specs.declared.conditions.TextConditions.{TextConditions}
 use Rattle.text.specs.declared.control.Kind.{Kind}
-use Rattle.text.specs.declared.control.Kind.TheVariants.{AbsoluteI, RelativeI, AbsoluteB, RelativeB, SetFont, Transparent, Repeat, RuleI, RuleB}
+use Rattle.text.specs.declared.control.Kind.TheVariants.{Absolute, Relative, SetFont, Transparent, Repeat, Rule}
 use Rattle.text.specs.declared.control.Control.{Control}
+use Rattle.text.specs.Axes.{across, extent, usual_width, position}
 use Rattle.text.specs.Fonts.{advance_of}
 use Rattle.text.specs.Canvases.{Canvas, done}
 use Rattle.text.specs.Runs.{characters}
@@ -23,8 +26,8 @@ use Rattle.text.specs.Effects.{two, word, width, effect}
 use Rattle.text.specs.Texts.{begins}
 
 pub data Unplaced (c : ℕ) (s : Canvas) : Refusal → Type 0 where
-  past_edge : 12240 < s.conditions.i + advance_of s.conditions.font c → Unplaced c s Outside
-  under_page : 15840 < s.conditions.b → Unplaced c s Outside
+  past_edge : extent Inline < s.conditions.i + advance_of s.conditions.font c → Unplaced c s Outside
+  under_page : extent Baseline < s.conditions.b → Unplaced c s Outside
   list_full : (c ≢ 0x40) → length s.marks ≤ s.count → Unplaced c s MarksFull
 
 pub record Unplaceds (cs : List ℕ) (s : Canvas) (r : Refusal) : Type 0 where
@@ -51,15 +54,12 @@ pub data Misheaded (chained : Bool) (bs : List ℕ) : Refusal → Type 0 where
 
 -- where a move goes
 abbrev pub target_of : Kind → List ℕ → TextConditions → Option ℤ
-target_of AbsoluteI ps t = Some (word ps 0)
-target_of RelativeI ps t = Some (pos t.i +ℤ word ps 0)
-target_of AbsoluteB ps t = Some (word ps 0)
-target_of RelativeB ps t = Some (pos t.b +ℤ word ps 0)
+target_of (Absolute axis) ps t = Some (word ps 0)
+target_of (Relative axis) ps t = Some (pos (position axis t) +ℤ word ps 0)
 target_of SetFont ps t = None
 target_of Transparent ps t = None
 target_of Repeat ps t = None
-target_of RuleI ps t = None
-target_of RuleB ps t = None
+target_of (Rule axis) ps t = None
 
 abbrev pub Off : ℕ → ℤ → ℕ → Type 0
 Off from by limit = (limit < from) ⊎ (((pos from +ℤ by) <ℤ pos 0) ⊎ (pos limit <ℤ (pos from +ℤ by)))
@@ -75,10 +75,8 @@ pub data Unperformed (k : Kind) (ps : List ℕ) (s : Canvas) : Refusal → Type 
   too_many : k ≡ Repeat → 32767 < two ps 0 → Unperformed k ps s BadControl
   no_pattern : k ≡ Repeat → 0 < two ps 0 → length (drop 2 ps) ≡ 0 → Unperformed k ps s BadControl
   repetitions : {r : Refusal} → k ≡ Repeat → Unplaceds (cycled (two ps 0) (drop 2 ps)) s r → Unperformed k ps s r
-  off_page_i : k ≡ RuleI → Ruled (word ps 0) (width (pos 5) ps) → Off s.conditions.i (word ps 0) 12240 ⊎ Off s.conditions.b (width (pos 5) ps) 15840 → Unperformed k ps s Outside
-  off_page_b : k ≡ RuleB → Ruled (word ps 0) (width (pos 4) ps) → Off s.conditions.b (word ps 0) 15840 ⊎ Off s.conditions.i (width (pos 4) ps) 12240 → Unperformed k ps s Outside
-  list_full_i : k ≡ RuleI → Ruled (word ps 0) (width (pos 5) ps) → length s.marks ≤ s.count → Unperformed k ps s MarksFull
-  list_full_b : k ≡ RuleB → Ruled (word ps 0) (width (pos 4) ps) → length s.marks ≤ s.count → Unperformed k ps s MarksFull
+  off_page : {axis : Axis} → k ≡ Rule axis → Ruled (word ps 0) (width (usual_width axis) ps) → Off (position axis s.conditions) (word ps 0) (extent axis) ⊎ Off (position (across axis) s.conditions) (width (usual_width axis) ps) (extent (across axis)) → Unperformed k ps s Outside
+  rule_unplaced : {axis : Axis} → k ≡ Rule axis → Ruled (word ps 0) (width (usual_width axis) ps) → length s.marks ≤ s.count → Unperformed k ps s MarksFull
 
 pub data Unobeyed (chained : Bool) (bs : List ℕ) (s : Canvas) : Refusal → Type 0 where
   misheaded : {r : Refusal} → Misheaded chained bs r → Unobeyed chained bs s r

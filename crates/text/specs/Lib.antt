@@ -1,4 +1,5 @@
 pub mod Fonts
+pub mod Axes
 pub mod Canvases
 pub mod Steps
 pub mod Moves

@@ -1,7 +1,7 @@
 -- What a character does where the text stands, and how a step is taken on a canvas.
 --   step        a mark, if any, and the conditions after it
 --   fits        a character stands within the page: its end inline, and its baseline
---   marked      a character's mark: kind 1, its code and its font's number
+--   marked      a character's mark: kind 1, its code and its font
 --   onward      the position inline, moved on
 --   lettered    the step of a character: a space moves on and leaves no mark; outside the page there is none
 --   put         a mark, if any, goes to the first free place, where there is one, and the conditions follow
@@ -11,18 +11,19 @@
 use Rattle.std.specs.Prelude.{ℕ, ◌+◌, Bool, cond, ◌&&◌, length, pos, Some, None, Ok, Err, Option, Result, ◌==◌, nat_le, nat_lt, slice_set}
 use Rattle.refusal.specs.declared.Refusal.{Refusal}
 use Rattle.refusal.specs.declared.Refusal.TheVariants.{Outside, MarksFull}
-use Rattle.text.specs.declared.Mark.{Mark}
+use Rattle.text.specs.declared.mark.Mark.{Mark}
+use Rattle.text.specs.declared.axis.Axis.TheVariants.{Inline, Baseline}
 use Rattle.text.specs.declared.conditions.TextConditions.{TextConditions}
 use Rattle.text.specs.declared.step.Step.{Step}
-use Rattle.text.specs.Fonts.{number_of, advance_of}
+use Rattle.text.specs.Axes.{extent}
+use Rattle.text.specs.Fonts.{advance_of, number_of}
 use Rattle.text.specs.Canvases.{Canvas, canvas, Out, done, refused}
 
 abbrev pub step : Option Mark → TextConditions → Step
 step m t = record { mark = m; next = t }
 
--- the page is 12,240 by 15,840
 abbrev pub fits : ℕ → TextConditions → Bool
-fits code t = nat_le (t.i + advance_of t.font code) 12240 && nat_le t.b 15840
+fits code t = nat_le (t.i + advance_of t.font code) (extent Inline) && nat_le t.b (extent Baseline)
 
 abbrev pub marked : ℕ → TextConditions → Mark
 marked code t = record { kind = 1; i = t.i; b = t.b; first = pos code; second = pos (number_of t.font) }

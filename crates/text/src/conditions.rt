@@ -1,11 +1,13 @@
 // The text conditions.
 ghost use Rattle.std.specs.Prelude.{◌≡◌};
+ghost use Rattle.text.specs.Axes.{position};
 ghost use Rattle.text.specs.Canvases.{starting};
 
+use crate::axis::Axis;
 use crate::font::Font;
 
 // Where the next character stands, inline and baseline, in 1/1440 inch, and in which font.
-#[derive(Clone, Copy)]
+#[derive(Clone, Copy, Debug, PartialEq, Eq)]
 pub struct TextConditions {
     pub i: u16,
     pub b: u16,
@@ -21,6 +23,16 @@ impl TextConditions {
             i: 0,
             b: 0,
             font: Font::Ten,
+        }
+    }
+
+    // The position in a direction.
+    pub(crate) fn position(self, axis: Axis) -> u16
+        ensures { result ≡ position axis self }
+    {
+        match axis {
+            Axis::Inline => self.i,
+            Axis::Baseline => self.b,
         }
     }
 }

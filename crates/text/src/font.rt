@@ -1,28 +1,34 @@
 // The fonts, and how far their characters advance.
 ghost use Rattle.std.specs.Prelude.{◌≡◌};
-ghost use Rattle.text.specs.Fonts.{number_of, font_of, advance_of};
+ghost use Rattle.text.specs.Fonts.{number_of, font_of, font_named, advance_of};
+
+use refusal::Refusal;
 
 // By characters per inch.
-#[derive(Clone, Copy)]
+#[derive(Clone, Copy, Debug, PartialEq, Eq)]
 pub enum Font {
     Ten,
     Twelve,
     Fifteen,
 }
 
-impl Font {
-    // The font of a number.
-    pub fn of(number: u8) -> Option<Font>
-        ensures { result ≡ font_of number }
-    {
+// The font of a number.
+impl TryFrom<u8> for Font {
+    type Error = Refusal;
+
+    ghost try_from_gives = { λ number r. r ≡ font_named number };
+
+    fn try_from(number: u8) -> Result<Font, Refusal> {
         match number {
-            1 => Some(Font::Ten),
-            2 => Some(Font::Twelve),
-            3 => Some(Font::Fifteen),
-            _ => None,
+            1 => Ok(Font::Ten),
+            2 => Ok(Font::Twelve),
+            3 => Ok(Font::Fifteen),
+            _ => Err(Refusal::BadControl),
         }
     }
+}
 
+impl Font {
     pub fn number(self) -> u8
         ensures { result ≡ number_of self }
     {

@@ -1,7 +1,8 @@
 // Controls that change the conditions.
 ghost use Rattle.std.specs.Prelude.{◌≡◌, pos, ◌+ℤ◌};
-ghost use Rattle.text.specs.Moves.{place, moved_i, moved_b, fonted};
+ghost use Rattle.text.specs.Moves.{place, moved, fonted};
 
+use crate::axis::Axis;
 use crate::conditions::TextConditions;
 use crate::font::Font;
 use crate::step::Step;
@@ -15,60 +16,34 @@ pub fn shifted(from: u16, by: i16) -> i32
 }
 
 // A position from a signed number, where it is one.
-fn place(to: i32) -> Option<u16>
+fn place(to: i32) -> Result<u16, Refusal>
     ensures { result ≡ place to }
 {
     if to < 0 || to > 32767 {
-        None
-    } else {
-        Some(to as u16)
+        return Err(Refusal::Outside);
     }
+    Ok(to as u16)
 }
 
-pub fn moved_i(conditions: TextConditions, to: i32) -> Result<Step, Refusal>
-    ensures { result ≡ moved_i to conditions }
-{
-    match place(to) {
-        Some(i) => Ok(Step {
-            mark: None,
-            next: TextConditions {
-                i,
-                b: conditions.b,
-                font: conditions.font,
-            },
-        }),
-        None => Err(Refusal::Outside),
+impl TextConditions {
+    pub(crate) fn moved(self, axis: Axis, to: i32) -> Result<Step, Refusal>
+        ensures { result ≡ moved axis to self }
+    {
+        let to = place(to)?;
+        let next = match axis {
+            Axis::Inline => TextConditions { i: to, ..self },
+            Axis::Baseline => TextConditions { b: to, ..self },
+        };
+        Ok(Step { mark: None, next })
     }
-}
 
-pub fn moved_b(conditions: TextConditions, to: i32) -> Result<Step, Refusal>
-    ensures { result ≡ moved_b to conditions }
-{
-    match place(to) {
-        Some(b) => Ok(Step {
+    pub(crate) fn fonted(self, number: u8) -> Result<Step, Refusal>
+        ensures { result ≡ fonted number self }
+    {
+        let font = Font::try_from(number)?;
+        Ok(Step {
             mark: None,
-            next: TextConditions {
-                i: conditions.i,
-                b,
-                font: conditions.font,
-            },
-        }),
-        None => Err(Refusal::Outside),
-    }
-}
-
-pub fn fonted(conditions: TextConditions, number: u8) -> Result<Step, Refusal>
-    ensures { result ≡ fonted number conditions }
-{
-    match Font::of(number) {
-        Some(font) => Ok(Step {
-            mark: None,
-            next: TextConditions {
-                i: conditions.i,
-                b: conditions.b,
-                font,
-            },
-        }),
-        None => Err(Refusal::BadControl),
+            next: TextConditions { font, ..self },
+        })
     }
 }

@@ -2,14 +2,10 @@
 ghost use Rattle.std.specs.Prelude.{◌≡◌};
 ghost use Rattle.text.specs.Steps.{marked, lettered};
 
-use crate::Mark;
+use crate::axis::Axis;
 use crate::conditions::TextConditions;
+use crate::mark::{Mark, MarkKind};
 use refusal::Refusal;
-
-// The page's extents, in 1/1440 inch.
-pub const PAGE_I: u16 = 12240;
-
-pub const PAGE_B: u16 = 15840;
 
 const SPACE: u8 = 0x40;
 
@@ -21,36 +17,40 @@ pub struct Step {
     pub next: TextConditions,
 }
 
-// The mark of a character.
-fn marked(conditions: TextConditions, code: u8) -> Mark
-    ensures { result ≡ marked code conditions }
-{
-    Mark {
-        kind: 1,
-        i: conditions.i,
-        b: conditions.b,
-        first: i32::from(code),
-        second: i32::from(conditions.font.number()),
+impl TextConditions {
+    // The mark of a character.
+    fn marked(self, code: u8) -> Mark
+        ensures { result ≡ marked code self }
+    {
+        Mark {
+            kind: MarkKind::Character as u8,
+            i: self.i,
+            b: self.b,
+            first: i32::from(code),
+            second: i32::from(self.font.number()),
+        }
     }
-}
 
-// The step of a character: it stands within the page or is refused, and a space leaves no mark.
-pub fn lettered(conditions: TextConditions, code: u8) -> Result<Step, Refusal>
-    ensures { result ≡ lettered code conditions }
-{
-    let advance = conditions.font.advance(code);
-    if conditions.i > PAGE_I || advance > PAGE_I - conditions.i || conditions.b > PAGE_B {
-        return Err(Refusal::Outside);
+    // The step of a character: it stands within the page or is refused, and a space leaves no mark.
+    pub(crate) fn lettered(self, code: u8) -> Result<Step, Refusal>
+        ensures { result ≡ lettered code self }
+    {
+        let advance = self.font.advance(code);
+        let edge = Axis::Inline.extent();
+        if self.i > edge || advance > edge - self.i || self.b > Axis::Baseline.extent() {
+            return Err(Refusal::Outside);
+        }
+        let mark = if code == SPACE {
+            None
+        } else {
+            Some(self.marked(code))
+        };
+        Ok(Step {
+            mark,
+            next: TextConditions {
+                i: self.i + advance,
+                ..self
+            },
+        })
     }
-    let next = TextConditions {
-        i: conditions.i + advance,
-        b: conditions.b,
-        font: conditions.font,
-    };
-    let mark = if code == SPACE {
-        None
-    } else {
-        Some(marked(conditions, code))
-    };
-    Ok(Step { mark, next })
 }
