@@ -24,8 +24,8 @@ fn place_in(codes: &[u8], code: u8) -> usize
     }
 }
 
-// A search of the table itself was tried, and its proof did not close: each goal there holds all ninety-five codes. So
-// the table is named only here and in the other function of the table.
+// A search of the table itself was tried, and its proof did not close: what the search says of the codes there, written
+// out, fits no lemma.
 fn place_in_table(code: u8) -> usize
     ensures { result ≡ place_in table code }
 {
@@ -33,16 +33,10 @@ fn place_in_table(code: u8) -> usize
 }
 
 // The code at a place; the question mark's behind the last.
-fn code_in(codes: &[u8], place: usize) -> u8
-    ensures { result ≡ code_at codes.now place }
-{
-    codes.get(place).copied().unwrap_or(QUESTION_MARK)
-}
-
 fn code_in_table(place: usize) -> u8
     ensures { result ≡ code_at table place }
 {
-    code_in(&CODES, place)
+    CODES.get(place).copied().unwrap_or(QUESTION_MARK)
 }
 
 // The EBCDIC code of a character, and the question mark's of one that has none here. From the space to the tilde no

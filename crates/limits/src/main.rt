@@ -2,7 +2,7 @@
 // the console.
 #![tactic(auto)]
 
-use engine::Sheet;
+use engine::{Sheet, Tally};
 use engines::TrackEngine;
 use host::{begin_page, end_page};
 use interpreter::Taken;
@@ -11,6 +11,11 @@ use std::io;
 use text::Mark;
 
 const MOST: u32 = 65535;
+
+// Pages and copies.
+fn counts(tally: Tally) -> (u64, u64) {
+    (u64::from(tally.pages.0), u64::from(tally.copies.0))
+}
 
 // A printer end and its reply area. No text is sent, so there is no mark list and no memory.
 #[derive(Drop)]
@@ -41,26 +46,24 @@ impl Session {
         let size = t.reply.min(40);
         let told = lines::take_line(rt.alloc(), t.used, t.number(), size, t.marks)?;
         rt.print(told.as_str())?;
-        let bytes = lines::hex_line(rt.alloc(), "reply", &self.reply[0..size])?;
+        let bytes = lines::hex_line(rt.alloc(), "reply", &self.reply[..size])?;
         rt.print(bytes.as_str())
     }
 
     fn tell_counters(&self, rt: &HostRuntime) -> io::Result<()> {
         let c = self.printer.counters();
-        let committed = (c.committed.pages.0 as u64, c.committed.copies.0 as u64);
-        let stacked = (c.stacked.pages.0 as u64, c.stacked.copies.0 as u64);
-        let told = lines::counters_line(rt.alloc(), c.received.0 as u64, committed, stacked)?;
+        let told = lines::counters_line(
+            rt.alloc(),
+            u64::from(c.received.0),
+            counts(c.committed),
+            counts(c.stacked),
+        )?;
         rt.print(told.as_str())
     }
 }
 
 fn main(rt: HostRuntime) -> io::Result<()> {
-    let blank = Sheet {
-        page: 0,
-        copy: 0,
-        last: false,
-    };
-    let list = vec![in rt.alloc(); blank; MOST as usize]?;
+    let list = vec![in rt.alloc(); Sheet::default(); MOST as usize]?;
     let mut session = Session {
         printer: Printer::new(TrackEngine::new(list)),
         reply: [0; 40],

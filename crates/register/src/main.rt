@@ -7,11 +7,11 @@ mod session;
 mod sheets;
 
 use console::heading;
-use engine::{Engine, Sheet};
+use engine::Engine;
 use engines::{FileEngine, TrackEngine};
 use host::{Page, next_page};
 use session::Session;
-use sheets::{print_end, print_records, print_sheets};
+use sheets::{Machine, print_end, wanted};
 use std::io;
 
 // The register: a page ID and the copies wanted of each page.
@@ -42,9 +42,6 @@ const REGISTER: [Page; 6] = [
     },
 ];
 
-// How many sheets all of it makes.
-const SHEETS: usize = 17;
-
 // The paper jams while the fifth page is being sent.
 const JAM_AT: usize = 4;
 
@@ -55,12 +52,13 @@ fn print_register<E: Engine + Drop>(rt: &HostRuntime, engine: E) -> io::Result<E
     let Some(mut reply) = session.ask(rt)? else {
         return Ok(session.into_engine());
     };
+    // Only the replies tell when all is sent, so that nothing but a count ends the loop.
     for sent in 0..100 {
         let Some(page) = next_page(&REGISTER, reply) else {
             break;
         };
-        if reply.number > 0 {
-            let (id, copies, out) = (page.id, page.copies, reply.stacked_copies);
+        if reply.number.is_some() {
+            let (id, copies, out) = (page.id, page.copies, reply.stacked.copies);
             println!(rt;
                 "host    goes on from these counters: of page {id:08X} {out} copies are stacked, {copies} are still to be made"
             )?;
@@ -78,30 +76,12 @@ fn print_register<E: Engine + Drop>(rt: &HostRuntime, engine: E) -> io::Result<E
     Ok(session.into_engine())
 }
 
-fn on_track(rt: &HostRuntime) -> io::Result<()> {
-    heading(rt, "Track engine: eight sheets in the path")?;
-    let blank = Sheet {
-        page: 0,
-        copy: 0,
-        last: false,
-    };
-    let list = vec![in rt.alloc(); blank; 32]?;
-    let engine = print_register(rt, TrackEngine::new(list))?;
-    let (list, stacked) = engine.into_list();
-    let complete = print_sheets(rt, &REGISTER, list.as_slice(), stacked)?;
-    print_end(rt, complete && stacked == SHEETS)
-}
-
-fn on_file(rt: &HostRuntime) -> io::Result<()> {
-    heading(
-        rt,
-        "File engine: one sheet in the path, eight bytes a sheet",
-    )?;
-    let bytes = vec![in rt.alloc(); 0u8; 256]?;
-    let engine = print_register(rt, FileEngine::new(bytes))?;
-    let (bytes, used) = engine.into_bytes();
-    let complete = print_records(rt, &REGISTER, bytes.as_slice(), used)?;
-    print_end(rt, complete && used == 8 * SHEETS)
+// Prints the register on an engine, and tells what came of it.
+fn on<M: Machine>(rt: &HostRuntime) -> io::Result<()> {
+    heading(rt, M::TITLE)?;
+    let machine = print_register(rt, M::empty(rt.alloc())?)?;
+    let wanted = wanted(rt.alloc(), &REGISTER)?;
+    print_end(rt, machine.print(rt, &wanted)?)
 }
 
 // Tells what is to come.
@@ -125,6 +105,6 @@ fn introduce(rt: &HostRuntime) -> io::Result<()> {
 
 fn main(rt: HostRuntime) -> io::Result<()> {
     introduce(&rt)?;
-    on_track(&rt)?;
-    on_file(&rt)
+    on::<TrackEngine>(&rt)?;
+    on::<FileEngine>(&rt)
 }

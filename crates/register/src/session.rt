@@ -58,18 +58,14 @@ impl<E: Engine + Drop> Session<E> {
             return Ok(None);
         };
         let kind = match r.number {
-            0 => "acknowledged",
-            19 => "NOT acknowledged: paper was lost (number 19)",
-            _ => "NOT acknowledged",
+            None => "acknowledged",
+            Some(19) => "NOT acknowledged: paper was lost (number 19)",
+            Some(_) => "NOT acknowledged",
         };
         line(rt, "reply", bytes, kind)?;
-        let (n, p, c, q, d) = (
-            r.received,
-            r.committed_pages,
-            r.committed_copies,
-            r.stacked_pages,
-            r.stacked_copies,
-        );
+        let n = r.received;
+        let (p, c) = (r.committed.pages, r.committed.copies);
+        let (q, d) = (r.stacked.pages, r.stacked.copies);
         println!(rt; "        counters: received {n}, committed {p}/{c}, stacked {q}/{d}")?;
         Ok(Some(r))
     }

@@ -1,76 +1,79 @@
 // The stacked sheets, held against the register.
 use crate::console::hex;
-use engine::Sheet;
-use engines::record;
+use engine::{Engine, Sheet};
+use engines::{FileEngine, TrackEngine, record};
 use host::Page;
+use std::alloc::{AllocError, Global};
 use std::io;
 
-// The sheet at a place of a register.
-fn wanted(register: &[Page], at: usize) -> Option<Sheet> {
-    let mut left = at;
+// The sheets that a register makes, in order.
+pub(crate) fn wanted(heap: Global, register: &[Page]) -> Result<Vec<Sheet>, AllocError> {
+    let mut sheets = Vec::new(heap);
     for page in register {
-        let copies = usize::from(page.copies);
-        if left < copies {
-            return Some(Sheet {
+        for copy in 1..=page.copies {
+            sheets.push(Sheet {
                 page: page.id,
-                copy: u8::try_from(left + 1).ok()?,
-                last: left + 1 == copies,
-            });
+                copy,
+                last: copy == page.copies,
+            })?;
         }
-        left -= copies;
     }
-    None
+    Ok(sheets)
 }
 
-// Whether the sheet is the one wanted at this place.
-fn is_wanted(register: &[Page], at: usize, sheet: &Sheet) -> bool {
-    match wanted(register, at) {
-        Some(s) => s.page == sheet.page && s.copy == sheet.copy && s.last == sheet.last,
-        None => false,
-    }
+// An engine that the register is printed on.
+pub trait Machine: Engine + Drop + Sized {
+    const TITLE: &'static str;
+
+    // With an empty path and an empty bin.
+    fn empty(heap: Global) -> Result<Self, AllocError>;
+
+    // Prints what is stacked and tells whether it is the wanted sheets, in order.
+    fn print(self, rt: &HostRuntime, wanted: &[Sheet]) -> io::Result<bool>;
 }
 
-// Prints the stacked sheets and tells whether they are those of the register, in order.
-pub(crate) fn print_sheets(
-    rt: &HostRuntime,
-    register: &[Page],
-    list: &[Sheet],
-    stacked: usize,
-) -> io::Result<bool> {
-    println!(rt; "In the bin: {stacked} sheets")?;
-    let mut right = true;
-    for (at, sheet) in list.iter().take(stacked).enumerate() {
-        let (page, copy) = (sheet.page, sheet.copy);
-        let last = if sheet.last { ", the last" } else { "" };
-        println!(rt; "  page {page:08X} copy {copy}{last}")?;
-        right = right && is_wanted(register, at, sheet);
-    }
-    Ok(right)
-}
+impl Machine for TrackEngine {
+    const TITLE: &'static str = "Track engine: eight sheets in the path";
 
-// Whether the bytes are the record of the sheet wanted at this place.
-fn is_record(register: &[Page], at: usize, bytes: &[u8]) -> bool {
-    match wanted(register, at) {
-        Some(s) => bytes == record(s).as_slice(),
-        None => false,
+    fn empty(heap: Global) -> Result<TrackEngine, AllocError> {
+        Ok(TrackEngine::new(vec![in heap; Sheet::default(); 32]?))
+    }
+
+    fn print(self, rt: &HostRuntime, wanted: &[Sheet]) -> io::Result<bool> {
+        let (mut list, stacked) = self.into_list();
+        println!(rt; "In the bin: {stacked} sheets")?;
+        list.truncate(stacked);
+        for sheet in &list {
+            let (page, copy) = (sheet.page, sheet.copy);
+            let last = if sheet.last { ", the last" } else { "" };
+            println!(rt; "  page {page:08X} copy {copy}{last}")?;
+        }
+        Ok(list.as_slice() == wanted)
     }
 }
 
-// Prints the used bytes, a record a line, and tells whether they are the register's records, in order.
-pub(crate) fn print_records(
-    rt: &HostRuntime,
-    register: &[Page],
-    bytes: &[u8],
-    used: usize,
-) -> io::Result<bool> {
-    println!(rt; "In the bin: {used} bytes")?;
-    let mut right = true;
-    for (at, part) in bytes.chunks(8).take(used / 8).enumerate() {
-        let text = hex(rt.alloc(), part)?;
-        println!(rt; "  {text}")?;
-        right = right && is_record(register, at, part);
+impl Machine for FileEngine {
+    const TITLE: &'static str = "File engine: one sheet in the path, eight bytes a sheet";
+
+    fn empty(heap: Global) -> Result<FileEngine, AllocError> {
+        Ok(FileEngine::new(vec![in heap; 0u8; 256]?))
     }
-    Ok(right)
+
+    // A record a line.
+    fn print(self, rt: &HostRuntime, wanted: &[Sheet]) -> io::Result<bool> {
+        let (mut bytes, used) = self.into_bytes();
+        println!(rt; "In the bin: {used} bytes")?;
+        bytes.truncate(used);
+        for part in bytes.chunks(8) {
+            let text = hex(rt.alloc(), part)?;
+            println!(rt; "  {text}")?;
+        }
+        let mut records = Vec::new(rt.alloc());
+        for sheet in wanted {
+            records.extend_from_slice(&record(*sheet))?;
+        }
+        Ok(bytes.as_slice() == records.as_slice())
+    }
 }
 
 pub(crate) fn print_end(rt: &HostRuntime, complete: bool) -> io::Result<()> {
