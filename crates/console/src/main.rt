@@ -41,12 +41,7 @@ fn end_file<R: Read>(player: &mut Player<R>, engine: FileEngine) -> io::Result<(
 
 fn on_track<R: Read>(player: &mut Player<R>, room: u32) -> io::Result<Next> {
     player.say_number("engine track ", room as u64)?;
-    let blank = Sheet {
-        page: 0,
-        copy: 0,
-        last: false,
-    };
-    let list = vec![in player.heap; blank; room as usize]?;
+    let list = vec![in player.heap; Sheet::default(); room as usize]?;
     let (engine, next) = session(player, TrackEngine::new(list))?;
     end_track(player, engine)?;
     Ok(next)

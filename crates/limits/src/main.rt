@@ -55,12 +55,7 @@ impl Session {
 }
 
 fn main(rt: HostRuntime) -> io::Result<()> {
-    let blank = Sheet {
-        page: 0,
-        copy: 0,
-        last: false,
-    };
-    let list = vec![in rt.alloc(); blank; MOST as usize]?;
+    let list = vec![in rt.alloc(); Sheet::default(); MOST as usize]?;
     let mut session = Session {
         printer: Printer::new(TrackEngine::new(list)),
         reply: [0; 40],

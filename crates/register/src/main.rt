@@ -80,12 +80,7 @@ fn print_register<E: Engine + Drop>(rt: &HostRuntime, engine: E) -> io::Result<E
 
 fn on_track(rt: &HostRuntime) -> io::Result<()> {
     heading(rt, "Track engine: eight sheets in the path")?;
-    let blank = Sheet {
-        page: 0,
-        copy: 0,
-        last: false,
-    };
-    let list = vec![in rt.alloc(); blank; 32]?;
+    let list = vec![in rt.alloc(); Sheet::default(); 32]?;
     let engine = print_register(rt, TrackEngine::new(list))?;
     let (list, stacked) = engine.into_list();
     let complete = print_sheets(rt, &REGISTER, list.as_slice(), stacked)?;
