@@ -10,8 +10,8 @@ use engine::{Engine, Sheet};
 
 #[derive(Drop)]
 pub struct Records {
-    // The caller's bytes: their first `stacked` records are the stacked sheets. Bytes short of a record at the end stay
-    // unused.
+    // The caller's bytes, all there from the start, so that no sheet allocates: their first `stacked` records are the
+    // stacked sheets. Bytes short of a record at the end stay unused.
     bytes: Vec<u8>,
     stacked: usize,
     ghost within: { stacked ≤ vec_len bytes / 8 },

@@ -7,7 +7,8 @@ use engine::{Engine, Sheet};
 
 #[derive(Drop)]
 pub struct SheetList {
-    // The caller's list: its first `stacked` sheets are the stacked ones.
+    // The caller's list, which has all its places from the start, so that no sheet allocates: its first `stacked` sheets
+    // are the stacked ones.
     list: Vec<Sheet>,
     stacked: usize,
     ghost within: { stacked ≤ vec_len list },
