@@ -1,6 +1,7 @@
 -- Turns in a row bring all that is owed into the bin.
 use Rattle.std.proofs.Common.{◌≡◌, ℕ, zero, suc, ◌+◌, ◌<◌, ◌≤◌, Bool, true, false, cond, ◌⊎◌, List, [], ◌∷◌, ◌++◌, length, sym, refl, ap, ◌∙◌, inl, inr, append_assoc, append-nil, add-one, arith, length-append}
 use Rattle.std.proofs.lemmas.Bool.{ltb-false}
+use Rattle.std.proofs.lemmas.List.{nil_from_length}
 use Rattle.engine.specs.declared.sheet.Sheet.{Sheet}
 use Rattle.engine.specs.Engines.{Paper, paper, put, taken}
 use Rattle.spool.specs.Flows.{Flow, flow, feed, turns, owed}
@@ -25,16 +26,11 @@ feeds K k p (w ∷ ws) = go (taken K p) refl
     }
     go false e = record { bin = refl; room = refl; same = refl; live = inl (omega (arith, ltb-false (length p.path) K e)) }
 
-nil_append : (xs ys : List Sheet) → length (xs ++ ys) ≤ 0 → xs ++ ys ≡ []
-nil_append [] [] h = refl
-nil_append [] (y ∷ ys) h = absurd (omega arith)
-nil_append (x ∷ xs) ys h = absurd (omega arith)
-
 drained : (n K : ℕ) → 0 < K → (path bin : List Sheet) (room : ℕ) (ws : List Sheet) → (0 < length path) ⊎ (ws ≡ []) → length (path ++ ws) ≤ n → length (path ++ ws) ≤ room → (turns n K (flow (paper path bin room) ws)).paper.bin ≡ bin ++ (path ++ ws)
-drained zero K k path bin room ws live less fits = sym (append-nil bin) ∙ ap (λ l. bin ++ l) (sym (nil_append path ws less))
+drained zero K k path bin room ws live less fits = sym (append-nil bin) ∙ ap (λ l. bin ++ l) (sym (nil_from_length (path ++ ws) (omega arith)))
 drained (suc n) K k [] bin room [] live less fits = drained n K k [] bin room [] (inr refl) (omega arith) (omega arith)
 drained (suc n) K k [] bin room (w ∷ ws) (inl h) less fits = absurd (omega arith)
-drained (suc n) K k [] bin room (w ∷ ws) (inr e) less fits = absurd (let z : ◌≡◌ {A = ℕ} 0 1 = cc in omega arith)
+drained (suc n) K k [] bin room (w ∷ ws) (inr e) less fits = cc
 drained (suc n) K k (s ∷ ss) bin zero ws live less fits = absurd (omega arith)
 drained (suc n) K k (s ∷ ss) bin (suc r) ws live less fits =
     let p = paper ss (bin ++ (s ∷ [])) r in

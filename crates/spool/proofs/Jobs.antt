@@ -1,5 +1,6 @@
 -- Fronts of a job: a front of its sheets is where its tally says.
 use Rattle.std.proofs.Common.{◌≡◌, ℕ, zero, suc, ◌+◌, ◌<◌, ◌≤◌, true, false, List, [], ◌∷◌, ◌++◌, length, get_or, take, drop, sym, refl, ap, ◌∙◌, append_assoc, append-nil, add-zero, zero-add, arith, take-append-drop}
+use Rattle.std.proofs.Math.Seq.{take-nil}
 use Rattle.std.proofs.lemmas.List.{take_all, take_more, get_or_past}
 use Rattle.engine.specs.declared.sheet.Sheet.{Sheet}
 use Rattle.engine.specs.Sheets.{Pair, pair, after, onward, tally}
@@ -49,7 +50,7 @@ record Place (P : ℕ) (J : List Page) (xs : List Sheet) : Type 0 where
 
 placed : (P : ℕ) (J : List Page) (xs zs : List Sheet) → Proper J → xs ++ zs ≡ job_sheets J → Place P J xs
 placed P [] [] zs pr e = record { j = 0; c = 0; met = ap (λ m. pair m 0) (sym (add-zero P)); is = refl }
-placed P [] (x ∷ xs) zs pr e = absurd (let z : ◌≡◌ {A = ℕ} 0 1 = cc in omega arith)
+placed P [] (x ∷ xs) zs pr e = cc
 placed P (p ∷ ps) xs zs pr e = go (λ us left. placed (P + 1) ps us zs pr.1 left) p.copies refl
   where
     cut : ((us : List Sheet) → us ++ zs ≡ job_sheets ps → Place (P + 1) ps us) → (n : ℕ) → p.copies ≡ suc n → Cut (pair P 0) xs zs (numbered p.id 1 (suc n)) (job_sheets ps) → Place P (p ∷ ps) xs
@@ -73,13 +74,9 @@ placed P (p ∷ ps) xs zs pr e = go (λ us left. placed (P + 1) ps us zs pr.1 le
     go later zero pn = absurd (omega (arith, pr.0.0))
     go later (suc n) pn = cut later n pn (within (pair P 0) p.id 1 n xs zs (job_sheets ps) (e ∙ ap (λ m. numbered p.id 1 m ++ job_sheets ps) pn))
 
-take_nil : {A : Type 0} (c : ℕ) → take {A = A} c [] ≡ []
-take_nil zero = refl
-take_nil (suc c) = refl
-
 -- what is left of a job behind a place in it
 rest : (J : List Page) (r c : ℕ) → (zs : List Sheet) × (upto J r c ++ zs ≡ job_sheets J)
-rest [] r c = ([], rw (take_nil {A = Page} r, take_nil {A = Sheet} c))
+rest [] r c = ([], rw (take-nil {A = Page} r, take-nil {A = Sheet} c))
 rest (p ∷ ps) zero c =
     (drop c (page_sheets p) ++ job_sheets ps, sym (append_assoc (take c (page_sheets p)) (drop c (page_sheets p)) (job_sheets ps)) ∙ ap (λ l. l ++ job_sheets ps) (take-append-drop c (page_sheets p)))
 rest (p ∷ ps) (suc r) c =
@@ -97,7 +94,7 @@ regained J pr r c xs ys e =
 -- all pages of a job are there
 pub upto_all : (J : List Page) (r c : ℕ) → length J ≤ r → upto J r c ≡ job_sheets J
 upto_all J r c le =
-    ap (λ l. job_sheets l ++ take c (page_sheets (get_or J r blank))) (take_all r J le) ∙ ap (λ p. job_sheets J ++ take c (page_sheets p)) (get_or_past J r blank le) ∙ ap (λ l. job_sheets J ++ l) (take_nil {A = Sheet} c) ∙ append-nil (job_sheets J)
+    ap (λ l. job_sheets l ++ take c (page_sheets (get_or J r blank))) (take_all r J le) ∙ ap (λ p. job_sheets J ++ take c (page_sheets p)) (get_or_past J r blank le) ∙ ap (λ l. job_sheets J ++ l) (take-nil {A = Sheet} c) ∙ append-nil (job_sheets J)
 
 job_sheets_push : (J : List Page) (p : Page) → job_sheets (J ++ (p ∷ [])) ≡ job_sheets J ++ page_sheets p
 job_sheets_push [] p = append-nil (page_sheets p)

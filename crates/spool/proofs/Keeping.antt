@@ -35,9 +35,9 @@ not_refused : (n : ℕ) (b : Spooled) → refusal_of n b ≡ None → Place n b
 not_refused n b e = go (full b) (eqb b.received 65535) (eqb b.received b.committed.pages) (ltb 255 (b.committed.copies + n)) refl refl refl refl e
   where
     go : (f s l m : Bool) → full b ≡ f → eqb b.received 65535 ≡ s → eqb b.received b.committed.pages ≡ l → ltb 255 (b.committed.copies + n) ≡ m → cond f (Some SixteenWait) (cond s (Some PagesSpent) (cond l (cond m (Some CopiesSpent) None) None)) ≡ None → Place n b
-    go true s l m ef es el em e = absurd (let z : ◌≡◌ {A = ℕ} 0 1 = cc in omega arith)
-    go false true l m ef es el em e = absurd (let z : ◌≡◌ {A = ℕ} 0 1 = cc in omega arith)
-    go false false true true ef es el em e = absurd (let z : ◌≡◌ {A = ℕ} 0 1 = cc in omega arith)
+    go true s l m ef es el em e = cc
+    go false true l m ef es el em e = cc
+    go false false true true ef es el em e = cc
     go false false true false ef es el em e = record { space = eqb-false _ _ ef; some = eqb-false _ _ es; level = λ z. ltb-false _ _ em }
     go false false false m ef es el em e = record { space = eqb-false _ _ ef; some = eqb-false _ _ es; level = λ z. absurd (eqb-false _ _ el z) }
 
@@ -82,7 +82,7 @@ pub stack_counts : (b : Spooled) (x : Sheet) → Kept b → Some x ≡ slice_get
 stack_counts b x h es ep = go b.path refl es
   where
     go : (p : List Sheet) → b.path ≡ p → Some x ≡ slice_get p 0 → ⊥
-    go [] e es = absurd (let z : ◌≡◌ {A = ℕ} 0 1 = cc in omega arith)
+    go [] e es = cc
     go (s ∷ ss) e es =
         let t = b.stacked in
         let is : x ≡ s = cc in
