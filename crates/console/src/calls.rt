@@ -15,13 +15,7 @@ fn take<E: Engine, R: Read>(
 ) -> io::Result<()> {
     let taken = buffers.take(printer, bytes);
     let size = taken.reply;
-    let line = lines::take_line(
-        player.heap,
-        taken.used,
-        taken.number(),
-        size,
-        taken.marks,
-    )?;
+    let line = lines::take_line(player.heap, taken.used, taken.number(), size, taken.marks)?;
     player.say(&line)?;
     if size > 0 {
         player.say_bytes("reply", buffers.reply(size))?;
