@@ -1,5 +1,4 @@
--- The code's spool and counters, as definitions see them.
---   spool_of    what a spool holds
+-- The code's counters, as definitions see them.
 --   Numbers    the five counters: received, the committed pair, the stacked pair
 --   told       the counters that the code hands out
 --   bytes_of    the five counters in two bytes each, the high byte first
@@ -7,12 +6,7 @@ use Rattle.std.specs.Prelude.{ℕ, ◌/◌, ◌%◌, List, [], ◌∷◌}
 use Rattle.engine.specs.Sheets.{Pair}
 use Rattle.engine.specs.Tallies.{counted}
 use Rattle.spool.specs.declared.page.Counters.{Counters}
-use Rattle.spool.specs.declared.spool.Spool.{Spool}
 use Rattle.spool.specs.Spooled.{Spooled}
-
--- the clauses see a spool as this
-abbrev pub spool_of : Spool → Spooled
-spool_of s = s
 
 pub record Numbers : Type 0 where
   pub received : ℕ

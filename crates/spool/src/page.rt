@@ -6,7 +6,7 @@ use engine::{Advanced, PageCount, Tally};
 use refusal::Refusal;
 
 // A page of which `unfed` copies are still to be fed.
-#[derive(Clone, Copy, Debug, PartialEq, Eq)]
+#[derive(Clone, Copy, Debug, Default, PartialEq, Eq)]
 pub struct WaitingPage {
     pub page: u32,
     pub unfed: u8,

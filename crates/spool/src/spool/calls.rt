@@ -20,12 +20,8 @@ impl Spool {
             received: stacked.pages,
             committed: stacked,
             stacked,
-            pages: Queue::new(WaitingPage { page: 0, unfed: 0 }),
-            path: Queue::new(Sheet {
-                page: 0,
-                copy: 0,
-                last: false,
-            }),
+            pages: Queue::new(WaitingPage::default()),
+            path: Queue::new(Sheet::default()),
         }
     }
 

@@ -24,7 +24,7 @@ impl Overlays {
         ensures { result ≡ empty_store }
     {
         Overlays {
-            entries: Queue::new(Entry { id: 0, size: 0 }),
+            entries: Queue::new(Entry::default()),
             bytes: 0,
             begun: 0,
         }
