@@ -3,7 +3,7 @@ use Rattle.std.proofs.Common.{◌≡◌, ℕ, Bool, true, false, cond, eqb, List
 use Rattle.std.specs.Option.{option_map}
 use Rattle.std.proofs.lemmas.Bool.{eqb-true}
 use Rattle.command.specs.declared.header.Header.{Header}
-use Rattle.refusal.specs.declared.Refusal.TheVariants.{NotAccepted}
+use Rattle.refusal.specs.declared.Refusal.TheVariants.{UnknownCode, DataLength, NotAccepted}
 use Rattle.command.specs.declared.state.State.{State}
 use Rattle.command.specs.declared.state.Command.TheVariants.{EndPage, LoadCopyControl, DiscardBufferedData}
 use Rattle.command.specs.declared.table.Row.{Row}
@@ -14,35 +14,35 @@ use Rattle.command.specs.declared.table.Allowed.TheVariants.{Home, Open, Every}
 use Rattle.command.specs.Headers.{two}
 use Rattle.command.specs.Tables.{row, row_of, kind_of, ends}
 use Rattle.command.specs.Commands.{page_in, copies_in, order_in, read_as, read_by, decoded}
-use Rattle.command.proofs.Decoded.{decoded_by_law}
+use Rattle.command.proofs.Decoded.{err_ok, decoded_by_law}
 
 page_other : (d : List ℕ) → page_in d ≡ Ok EndPage → ⊥
-page_other [] e = let z : ◌≡◌ {A = ℕ} 0 1 = cc in omega arith
-page_other (a ∷ []) e = let z : ◌≡◌ {A = ℕ} 0 1 = cc in omega arith
-page_other (a ∷ b ∷ []) e = let z : ◌≡◌ {A = ℕ} 0 1 = cc in omega arith
-page_other (a ∷ b ∷ c ∷ []) e = let z : ◌≡◌ {A = ℕ} 0 1 = cc in omega arith
+page_other [] e = err_ok EndPage DataLength e
+page_other (a ∷ []) e = err_ok EndPage DataLength e
+page_other (a ∷ b ∷ []) e = err_ok EndPage DataLength e
+page_other (a ∷ b ∷ c ∷ []) e = err_ok EndPage DataLength e
 page_other (a ∷ b ∷ c ∷ f ∷ []) e = let z : ◌≡◌ {A = ℕ} 0 1 = cc in omega arith
-page_other (a ∷ b ∷ c ∷ f ∷ g ∷ d) e = let z : ◌≡◌ {A = ℕ} 0 1 = cc in omega arith
+page_other (a ∷ b ∷ c ∷ f ∷ g ∷ d) e = err_ok EndPage DataLength e
 
 copies_other : (d : List ℕ) → copies_in d ≡ Ok EndPage → ⊥
-copies_other [] e = let z : ◌≡◌ {A = ℕ} 0 1 = cc in omega arith
-copies_other (a ∷ []) e = let z : ◌≡◌ {A = ℕ} 0 1 = cc in omega arith
+copies_other [] e = err_ok EndPage DataLength e
+copies_other (a ∷ []) e = err_ok EndPage DataLength e
 copies_other (a ∷ n ∷ []) e = go (eqb a 2) e
   where
     go : (b : Bool) → cond b (Ok (LoadCopyControl n)) (Err NotAccepted) ≡ Ok EndPage → ⊥
     go true e = let z : ◌≡◌ {A = ℕ} 0 1 = cc in omega arith
-    go false e = let z : ◌≡◌ {A = ℕ} 0 1 = cc in omega arith
-copies_other (a ∷ n ∷ f ∷ d) e = let z : ◌≡◌ {A = ℕ} 0 1 = cc in omega arith
+    go false e = err_ok EndPage NotAccepted e
+copies_other (a ∷ n ∷ f ∷ d) e = err_ok EndPage DataLength e
 
 order_other : (d : List ℕ) → order_in d ≡ Ok EndPage → ⊥
-order_other [] e = let z : ◌≡◌ {A = ℕ} 0 1 = cc in omega arith
-order_other (a ∷ []) e = let z : ◌≡◌ {A = ℕ} 0 1 = cc in omega arith
+order_other [] e = err_ok EndPage DataLength e
+order_other (a ∷ []) e = err_ok EndPage DataLength e
 order_other (a ∷ c ∷ []) e = go (eqb (two a c) 0xF200) e
   where
     go : (b : Bool) → cond b (Ok DiscardBufferedData) (Err NotAccepted) ≡ Ok EndPage → ⊥
     go true e = let z : ◌≡◌ {A = ℕ} 0 1 = cc in omega arith
-    go false e = let z : ◌≡◌ {A = ℕ} 0 1 = cc in omega arith
-order_other (a ∷ c ∷ f ∷ d) e = let z : ◌≡◌ {A = ℕ} 0 1 = cc in omega arith
+    go false e = err_ok EndPage NotAccepted e
+order_other (a ∷ c ∷ f ∷ d) e = err_ok EndPage DataLength e
 
 reads_end : (k : Kind) (d : List ℕ) → read_as k d ≡ Ok EndPage → k ≡ kinds.EndPage
 reads_end kinds.BeginPage d e = absurd (page_other d e)
@@ -73,5 +73,5 @@ pub decoded_end : (s : State) (h : Header) (d : List ℕ) → decoded s h d ≡ 
 decoded_end s h d e = go (row_of h.code) (decoded_by_law (row_of h.code) s h d EndPage e)
   where
     go : (o : Option Row) → read_by o d ≡ Ok EndPage → option_map (λ (r : Row). r.kind) o ≡ Some kinds.EndPage
-    go None r = absurd (let z : ◌≡◌ {A = ℕ} 0 1 = cc in omega arith)
+    go None r = err_ok EndPage UnknownCode r
     go (Some w) r = ap Some (reads_end w.kind d r)
