@@ -1,4 +1,5 @@
 // The spool, what is open, the copies in force, the negative reply that waits to be fetched, and the count of marks.
+// Clauses see its fields and name `machine_of` of it: a model would close the spool, which the engine's side works on.
 ghost use Rattle.std.specs.Prelude.{◌<◌};
 
 use command::{Fault, State};

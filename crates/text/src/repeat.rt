@@ -25,6 +25,7 @@ impl Writer<'_> {
         ensures same_list { self.new.marks.ghost_name ≡ self.old.marks.ghost_name }
         ensures cycle { out (canvas_of self.new) result ≡ characters (cycled times pattern.now) (canvas_of self.old) }
     {
+        // Counted by place: with the library's `cycle` the proof did not close, since its loop tells no place.
         for k in 0..times {
             self.character(code_at(pattern, k))?;
         }

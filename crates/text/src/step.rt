@@ -9,7 +9,7 @@ use refusal::Refusal;
 
 const SPACE: u8 = 0x40;
 
-#[derive(Clone, Copy)]
+#[derive(Clone, Copy, Debug, PartialEq, Eq)]
 pub struct Step {
     // The mark that it leaves, if any.
     pub mark: Option<Mark>,

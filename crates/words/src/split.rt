@@ -21,7 +21,7 @@ pub fn says_nothing(line: &[u8]) -> bool
     matches!(line, [] | [b'#', ..])
 }
 
-// Whether a word is the given one.
+// Whether a word is the given one. Its clause says so of the bytes, which `==` alone leaves to the caller.
 pub fn same(word: &[u8], name: &[u8]) -> bool
     ensures { result ≡ bytes_eq word.now name.now }
 {
