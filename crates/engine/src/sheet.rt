@@ -9,7 +9,7 @@ pub struct Sheet {
     pub last: bool,
 }
 
-// What an engine answers to an advance.
+// What an engine answers to an advance: three answers side by side. An empty path is no error, so no Result.
 #[derive(Clone, Copy, Debug, PartialEq, Eq)]
 pub enum Advanced {
     Stacked(Sheet),

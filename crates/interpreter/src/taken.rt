@@ -4,13 +4,13 @@ ghost use Rattle.interpreter.specs.Outcomes.{number_told};
 
 use command::Refusal;
 
-#[derive(Clone, Copy)]
+#[derive(Clone, Copy, Debug, PartialEq, Eq)]
 pub struct Taken {
     // How many of the bytes are used up.
     pub used: usize,
     // Accepted, or why not.
     pub outcome: Result<(), Refusal>,
-    // The length of the reply; 0 where there is none.
+    // The length of the reply; 0 where there is none, since no byte of the area is one then.
     pub reply: usize,
     // How many marks are on the open or latest page.
     pub marks: usize,

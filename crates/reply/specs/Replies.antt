@@ -1,5 +1,6 @@
 -- The bytes of a reply.
 --   heading   length, code D6FF, flag, type, and the five counters: sixteen bytes
+--   type_of   the type byte: 00 of an acknowledgement, 80 of a negative reply
 --   place_of  where a fault was found; what is absent is told as 0
 --   sense     the twenty-four sense bytes of a fault: exception code (0, 1, 19), the host's command (2, 3), the
 --             innermost command (4, 5), the offset in its data (6, 7), layer (8), overlay (9, 10), number (11),
@@ -12,10 +13,16 @@ use Rattle.std.specs.Option.{unwrap_or}
 use Rattle.refusal.specs.declared.Fault.{Fault}
 use Rattle.refusal.specs.declared.Place.{Place}
 use Rattle.refusal.specs.Refusals.{number_of, layer_of, exception_of}
+use Rattle.reply.specs.declared.bytes.ReplyType.{ReplyType}
+use Rattle.reply.specs.declared.bytes.ReplyType.TheVariants.{Acknowledgement, Negative}
 use Rattle.spool.specs.Spools.{Numbers, two, bytes_of}
 
 abbrev pub heading : ℕ → ℕ → Numbers → List ℕ
 heading size kind n = 0x00 ∷ size ∷ 0xD6 ∷ 0xFF ∷ 0x00 ∷ kind ∷ bytes_of n
+
+abbrev pub type_of : ReplyType → ℕ
+type_of Acknowledgement = 0x00
+type_of Negative = 0x80
 
 abbrev pub place_of : Fault → Place
 place_of f = unwrap_or f.place (record { host = 0; command = 0; offset = 0 })

@@ -1,11 +1,18 @@
 // The parts of a reply.
 ghost use Rattle.std.specs.Prelude.{◌≡◌, []};
-ghost use Rattle.reply.specs.Replies.{heading, sense};
+ghost use Rattle.reply.specs.Replies.{heading, type_of, sense};
 ghost use Rattle.spool.specs.Spools.{told, two};
 
 use engine::Tally;
 use refusal::{Fault, Place};
 use spool::Counters;
+
+// What a reply says of the command, by its type byte.
+#[derive(Clone, Copy)]
+pub enum ReplyType {
+    Acknowledgement = 0x00,
+    Negative = 0x80,
+}
 
 // A tally in four bytes: its pages, then its copies.
 fn tally_of(tally: Tally) -> [u8; 4]
@@ -16,9 +23,10 @@ fn tally_of(tally: Tally) -> [u8; 4]
     [p0, p1, c0, c1]
 }
 
-pub fn heading_of(size: u8, kind: u8, counters: Counters) -> [u8; 16]
-    ensures { result ≡ heading size kind (told counters) }
+pub fn heading_of(size: u8, reply: ReplyType, counters: Counters) -> [u8; 16]
+    ensures { result ≡ heading size (type_of reply) (told counters) }
 {
+    let kind = reply as u8;
     let [r0, r1] = counters.received.0.to_be_bytes();
     let [c0, c1, c2, c3] = tally_of(counters.committed);
     let [s0, s1, s2, s3] = tally_of(counters.stacked);

@@ -3,7 +3,7 @@ ghost use Rattle.std.specs.Prelude.{◌≡◌, length, if◌then◌else◌, nat_
 ghost use Rattle.reply.specs.Replies.{ack, nack, written};
 ghost use Rattle.spool.specs.Spools.{told};
 
-use crate::bytes::{heading_of, sense_of};
+use crate::bytes::{ReplyType, heading_of, sense_of};
 use refusal::Fault;
 use spool::Counters;
 
@@ -13,12 +13,13 @@ fn negative(counters: Counters, fault: Fault) -> [u8; 40]
 {
     let mut reply = [0; 40];
     let (heading, sense) = reply.split_at_mut(16);
-    heading.copy_from_slice(&heading_of(40, 0x80, counters));
+    heading.copy_from_slice(&heading_of(40, ReplyType::Negative, counters));
     sense.copy_from_slice(&sense_of(fault));
     reply
 }
 
-// Writes a reply and tells its length: 0 where the area is too short for it.
+// Writes a reply and tells its length: 0 where the area is too short for it. That is a length too, of what was written, so
+// no Option.
 fn write<const N: usize>(area: &mut [u8], reply: &[u8; N]) -> usize
     ensures length { result ≡ (if nat_le N (length area.old) then N else 0) }
     ensures area { area.new ≡ written reply.now area.old }
@@ -35,7 +36,7 @@ pub fn acknowledge(area: &mut [u8], counters: Counters) -> usize
     ensures length { result ≡ (if nat_le 16 (length area.old) then 16 else 0) }
     ensures area { area.new ≡ written (ack (told counters)) area.old }
 {
-    write(area, &heading_of(16, 0x00, counters))
+    write(area, &heading_of(16, ReplyType::Acknowledgement, counters))
 }
 
 // Writes a negative reply and tells its length: 0 where the area is too short for it.
