@@ -1,5 +1,5 @@
 -- What is decoded in a state is the command in the bytes.
-use Rattle.std.proofs.Common.{◌≡◌, ℕ, Bool, true, false, cond, List, length, Some, None, Ok, Err, Option, Result, sym, ap, ◌∙◌, arith}
+use Rattle.std.proofs.Common.{◌≡◌, ℕ, Bool, true, false, cond, List, length, Some, None, Ok, Err, Option, Result, sym, ap, ◌∙◌}
 use Rattle.command.specs.declared.header.Header.{Header}
 use Rattle.command.specs.declared.state.State.{State}
 use Rattle.command.specs.declared.state.Command.{Command}
@@ -12,7 +12,7 @@ use Rattle.command.specs.Commands.{read_as, decoded_by, decoded, read_by, comman
 -- no answer is both a command and a refusal
 module _ {A F C : Type 0} (a : A) (f : F) where
   pub err_ok : ◌≡◌ {A = Result A F} (Err f) (Ok a) → C
-  err_ok e = absurd (let z : ◌≡◌ {A = ℕ} 0 1 = cc in omega arith)
+  err_ok e = absurd cc
 
   pub ok_err : ◌≡◌ {A = Result A F} (Ok a) (Err f) → C
   ok_err e = err_ok (sym e)

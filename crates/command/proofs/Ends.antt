@@ -1,5 +1,5 @@
 -- Only a command whose kind is the end of a page makes an End Page.
-use Rattle.std.proofs.Common.{◌≡◌, ℕ, Bool, true, false, cond, eqb, List, [], ◌∷◌, Some, None, Ok, Err, Option, sym, refl, ap, subst, arith}
+use Rattle.std.proofs.Common.{◌≡◌, ℕ, Bool, true, false, cond, eqb, List, [], ◌∷◌, Some, None, Ok, Err, Option, sym, refl, ap, subst}
 use Rattle.std.specs.Option.{option_map}
 use Rattle.std.proofs.lemmas.Bool.{eqb-true}
 use Rattle.command.specs.declared.header.Header.{Header}
@@ -21,7 +21,7 @@ page_other [] e = err_ok EndPage DataLength e
 page_other (a ∷ []) e = err_ok EndPage DataLength e
 page_other (a ∷ b ∷ []) e = err_ok EndPage DataLength e
 page_other (a ∷ b ∷ c ∷ []) e = err_ok EndPage DataLength e
-page_other (a ∷ b ∷ c ∷ f ∷ []) e = let z : ◌≡◌ {A = ℕ} 0 1 = cc in omega arith
+page_other (a ∷ b ∷ c ∷ f ∷ []) e = cc
 page_other (a ∷ b ∷ c ∷ f ∷ g ∷ d) e = err_ok EndPage DataLength e
 
 copies_other : (d : List ℕ) → copies_in d ≡ Ok EndPage → ⊥
@@ -30,7 +30,7 @@ copies_other (a ∷ []) e = err_ok EndPage DataLength e
 copies_other (a ∷ n ∷ []) e = go (eqb a 2) e
   where
     go : (b : Bool) → cond b (Ok (LoadCopyControl n)) (Err NotAccepted) ≡ Ok EndPage → ⊥
-    go true e = let z : ◌≡◌ {A = ℕ} 0 1 = cc in omega arith
+    go true e = cc
     go false e = err_ok EndPage NotAccepted e
 copies_other (a ∷ n ∷ f ∷ d) e = err_ok EndPage DataLength e
 
@@ -40,7 +40,7 @@ order_other (a ∷ []) e = err_ok EndPage DataLength e
 order_other (a ∷ c ∷ []) e = go (eqb (two a c) 0xF200) e
   where
     go : (b : Bool) → cond b (Ok DiscardBufferedData) (Err NotAccepted) ≡ Ok EndPage → ⊥
-    go true e = let z : ◌≡◌ {A = ℕ} 0 1 = cc in omega arith
+    go true e = cc
     go false e = err_ok EndPage NotAccepted e
 order_other (a ∷ c ∷ f ∷ d) e = err_ok EndPage DataLength e
 
@@ -48,8 +48,8 @@ reads_end : (k : Kind) (d : List ℕ) → read_as k d ≡ Ok EndPage → k ≡ k
 reads_end kinds.BeginPage d e = absurd (page_other d e)
 reads_end kinds.EndPage d e = refl
 reads_end kinds.LoadCopyControl d e = absurd (copies_other d e)
-reads_end kinds.NoOperation d e = absurd (let z : ◌≡◌ {A = ℕ} 0 1 = cc in omega arith)
-reads_end kinds.SetHomeState d e = absurd (let z : ◌≡◌ {A = ℕ} 0 1 = cc in omega arith)
+reads_end kinds.NoOperation d e = absurd cc
+reads_end kinds.SetHomeState d e = absurd cc
 reads_end kinds.ExecuteOrderAnyState d e = absurd (order_other d e)
 
 -- the end of a page is in the table at this code alone

@@ -29,6 +29,7 @@ impl Header {
     pub fn read(bytes: &[u8]) -> Option<(Header, &[u8])>
         ensures { elim result [ None ↦ header_of bytes.now ≡ None | Some p ↦ (header_of bytes.now ≡ Some p.0) × (p.1.now ≡ drop 5 bytes.now) ] }
     {
+        // A slice pattern: it takes length, code and flag apart at once.
         let [l0, l1, c0, c1, flag, rest @ ..] = bytes else {
             return None;
         };

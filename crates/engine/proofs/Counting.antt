@@ -1,5 +1,5 @@
 -- A tally that is counted sheet by sheet.
-use Rattle.std.proofs.Common.{◌≡◌, ℕ, ◌+◌, ◌<◌, ◌≤◌, Bool, true, false, cond, ltb, List, ◌∷◌, length, get_or, drop, Some, None, Option, sym, refl, ap, ◌∙◌, arith}
+use Rattle.std.proofs.Common.{◌≡◌, ℕ, ◌+◌, ◌<◌, ◌≤◌, Bool, true, false, cond, ltb, List, ◌∷◌, length, get_or, drop, Some, None, Option, sym, refl, ap, ◌∙◌}
 use Rattle.std.specs.Option.{option_map}
 use Rattle.std.proofs.lemmas.List.{at_drop_more, at_drop_all}
 use Rattle.std.proofs.lemmas.Bool.{lt-ltb}
@@ -33,14 +33,14 @@ plus_is t u s e = go (fits t s) e
   where
     go : (b : Bool) → Some u ≡ cond b (Some (after t s)) None → u ≡ after t s
     go true h = cc
-    go false h = absurd (let z : ◌≡◌ {A = ℕ} 0 1 = cc in omega arith)
+    go false h = absurd cc
 
 -- and it is there where the counts can grow
 pub plus_fits : (t : Pair) (s : Sheet) → None ≡ plus_of t s → fits t s ≡ false
 plus_fits t s e = go (fits t s) refl e
   where
     go : (b : Bool) → fits t s ≡ b → None ≡ cond b (Some (after t s)) None → b ≡ false
-    go true f h = absurd (let z : ◌≡◌ {A = ℕ} 0 1 = cc in omega arith)
+    go true f h = absurd cc
     go false f h = refl
 
 pub fits_is : (t : Pair) (s : Sheet) → (s.last ≡ true → t.pages < 65535) → t.copies < 255 → fits t s ≡ true

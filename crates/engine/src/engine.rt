@@ -17,7 +17,7 @@ pub trait Engine {
     // What holds of the engine at any time.
     ghost sound: { (e : Self) → Sound K (paper e).path };
 
-    // Puts a sheet at the end of the path; refused where the path is full.
+    // Puts a sheet at the end of the path; refused where the path is full, and on no other ground, so yes or no tells all.
     fn feed(&mut self, sheet: Sheet) -> bool
         ensures taken { result ≡ taken K (paper self.old) }
         ensures paper { paper self.new ≡ fed K sheet (paper self.old) };

@@ -9,7 +9,8 @@ pub struct Sheet {
     pub last: bool,
 }
 
-// What an engine answers to an advance: three answers side by side. An empty path is no error, so no Result.
+// What an engine answers to an advance. No Result: a turn goes on after an advance that stacks nothing, so neither an
+// empty path nor a full bin is an error.
 #[derive(Clone, Copy, Debug, PartialEq, Eq)]
 pub enum Advanced {
     Stacked(Sheet),

@@ -1,4 +1,5 @@
 pub mod Records
 pub mod Tracks
 pub mod Files
+pub mod Soundness
 pub mod Paths

@@ -8,6 +8,7 @@ use Rattle.engine.specs.declared.sheet.Sheet.{Sheet}
 use Rattle.engine.specs.declared.sheet.Advanced.{Advanced}
 use Rattle.engine.specs.declared.sheet.Advanced.TheVariants.{Stacked, PathEmpty, BinFull}
 use Rattle.engine.specs.Engines.{Paper, paper, Sound}
+use Rattle.engines.specs.Soundness.{sound_path}
 use Rattle.engines.specs.declared.bin.Bin.{Ghosts}
 use Rattle.engines.specs.declared.path.PathEngine.{PathEngine}
 
@@ -15,7 +16,7 @@ abbrev pub paper_of : {B : Type 0} {K : ℕ} {m : Ghosts B} → PathEngine B K m
 paper_of {m = m} e = paper e.path (m.sheets e.bin) (m.room e.bin)
 
 pub path_sound : {B : Type 0} {K : ℕ} {m : Ghosts B} (e : PathEngine B K m) → Sound K e.path
-path_sound e = record { some = e.some; few = e.few; short = e.short }
+path_sound e = sound_path _ e.path e.some e.few e.short
 
 abbrev pub AsAnswered : {B : Type 0} → (B → Sheet → B → Type 0) → Advanced → B → B → Type 0
 AsAnswered gives (Stacked s) before after = gives before s after

@@ -14,7 +14,7 @@ pub trait Bin {
     // What a bin with room becomes when a sheet is stacked.
     ghost stack_gives: { Self → Sheet → Self → Type 0 };
 
-    // Puts a sheet behind the others; refused where there is no room.
+    // Puts a sheet behind the others; refused where there is no room, and on no other ground, so yes or no tells all.
     fn stack(&mut self, sheet: Sheet) -> bool
         ensures taken { result ≡ nat_lt 0 (room self.old) }
         ensures sheets { sheets self.new ≡ (if result then sheets self.old ++ sheet ∷ [] else sheets self.old) }

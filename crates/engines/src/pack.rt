@@ -4,7 +4,7 @@ ghost use Rattle.engines.specs.Records.{bytes_of, sheet_of};
 
 use engine::Sheet;
 
-// The record of a sheet, from which the sheet can be told again.
+// The record of a sheet, from which the sheet can be told again. A function and no From: neither type is of this crate.
 pub fn record(sheet: Sheet) -> [u8; 8]
     ensures bytes { result ≡ bytes_of sheet }
     ensures back { sheet_of result ≡ sheet }

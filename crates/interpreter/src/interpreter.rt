@@ -1,6 +1,7 @@
 // The spool, what is open, the copies in force, the negative reply that waits to be fetched, and the count of marks.
-// Clauses see its fields and name `machine_of` of it: a model would close the spool, which the engine's side works on.
-ghost use Rattle.std.specs.Prelude.{◌<◌};
+// Clauses name `machine_of` of it. No model: the engine's side works on the spool alone, and would have to show the whole
+// machine anew after each such work.
+ghost use Rattle.std.specs.Prelude.{◌<◌, ◌≤◌};
 
 use command::{Fault, State};
 use spool::{Copies, Spool};
@@ -18,4 +19,5 @@ pub struct Interpreter {
     pending: Option<Fault>,
     marks: usize,
     ghost some: { 0 < copies },
+    ghost few: { copies ≤ 255 },
 }

@@ -10,14 +10,14 @@ pub struct Taken {
     pub used: usize,
     // Accepted, or why not.
     pub outcome: Result<(), Refusal>,
-    // The length of the reply; 0 where there is none, since no byte of the area is one then.
+    // How many bytes of the area are the reply: none is 0, so no Option.
     pub reply: usize,
     // How many marks are on the open or latest page.
     pub marks: usize,
 }
 
 impl Taken {
-    // The refusal's number; 0 where the command was accepted.
+    // The refusal's number; 0 where the command was accepted, as a take is told outside. `outcome` says it in full.
     pub fn number(self) -> u8
         ensures { result ≡ number_told self.outcome }
     {

@@ -1,4 +1,5 @@
-// A printer end: an engine, and the interpreter of the host's commands with its spool.
+// A printer end: an engine, and the interpreter of the host's commands with its spool. Clauses name `end_of` of it. No
+// model: `into_engine` promises the engine itself, which a model of paper and machine would forget.
 use engine::Engine;
 use interpreter::Interpreter;
 

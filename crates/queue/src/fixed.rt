@@ -1,11 +1,12 @@
 // A queue of at most `N` elements in places of its own, which never allocates. Clauses see its elements, the first
 // first.
-ghost use Rattle.std.specs.Prelude.{◌≡◌, ◌≤◌, ◌==◌, [], ◌∷◌, ◌++◌, length, drop, slice_get, slice_set, nat_lt, if◌then◌else◌};
+ghost use Rattle.std.specs.Prelude.{◌≡◌, ◌≤◌, ◌==◌, [], ◌∷◌, ◌++◌, length, take, drop, slice_get, slice_set, nat_lt, if◌then◌else◌};
 ghost use Rattle.std.specs.List.{remove};
 
 use crate::{add, close_gap, take_first};
 use std::marker::Model;
 
+// No derived comparison or printing: both would show the free places.
 #[derive(Drop)]
 pub struct Queue<T: Copy, const N: usize> {
     slots: [T; N],
@@ -107,6 +108,13 @@ impl<T: Copy, const N: usize> Queue<T, N> {
         if at < self.count {
             self.slots[at] = element;
         }
+    }
+
+    // Keeps so many of the first elements.
+    pub fn truncate(&mut self, len: usize)
+        ensures { self.new ≡ take len self.old }
+    {
+        self.count = self.count.min(len);
     }
 
     pub fn clear(&mut self)

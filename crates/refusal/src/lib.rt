@@ -162,13 +162,13 @@ impl Refusal {
     pub fn names_overlay(self) -> bool
         ensures { result ≡ names_overlay self }
     {
-        match self {
+        matches!(
+            self,
             Refusal::IdOutOfRange
-            | Refusal::AlreadyStored
-            | Refusal::NotStored
-            | Refusal::IncludesItself
-            | Refusal::TooDeep => true,
-            _ => false,
-        }
+                | Refusal::AlreadyStored
+                | Refusal::NotStored
+                | Refusal::IncludesItself
+                | Refusal::TooDeep
+        )
     }
 }

@@ -18,8 +18,8 @@ fn negative(counters: Counters, fault: Fault) -> [u8; 40]
     reply
 }
 
-// Writes a reply and tells its length: 0 where the area is too short for it. That is a length too, of what was written, so
-// no Option.
+// Writes a reply and tells its length: 0 where the area is too short for it. No Option: callers go on with how many bytes
+// of the area are a reply, and none are 0.
 fn write<const N: usize>(area: &mut [u8], reply: &[u8; N]) -> usize
     ensures length { result ≡ (if nat_le N (length area.old) then N else 0) }
     ensures area { area.new ≡ written reply.now area.old }

@@ -12,7 +12,7 @@ pub struct WaitingPage {
     pub unfed: u8,
 }
 
-// Why a page is not received.
+// Why a page is not received. No Refusal: these three are all, so a match on them is whole.
 #[derive(Clone, Copy, Debug, PartialEq, Eq)]
 pub enum NotReceived {
     // Sixteen pages wait already.

@@ -64,7 +64,7 @@ impl Interpreter {
         ensures { (area : List ℕ) → taking (machine_of self.new) area result ≡ unreadable header given (machine_of self.old) area }
     {
         let fault = self.fault(Refusal::LengthOutOfRange, header);
-        self.pending = Some(self.pending.unwrap_or(fault));
+        self.pending = self.pending.or(Some(fault));
         self.state = State::Home;
         Taken {
             used: given,
@@ -74,7 +74,8 @@ impl Interpreter {
         }
     }
 
-    // Discarded while a negative reply is pending; with a request the reply is handed over.
+    // Discarded while a negative reply is pending; with a request the reply is handed over. Header and reply area are lent
+    // to this call and the two below alone, and no value keeps them.
     pub(super) fn hand_over(&mut self, header: Header, fault: Fault, reply: &mut [u8; 40]) -> Taken
         ensures { taking (machine_of self.new) reply.new result ≡ handed fault header (machine_of self.old) reply.old }
     {

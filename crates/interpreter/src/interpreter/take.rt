@@ -36,6 +36,7 @@ impl Interpreter {
     pub fn take(&mut self, bytes: &[u8], reply: &mut [u8]) -> Taken
         ensures { taking (machine_of self.new) reply.new result ≡ take_of bytes.now (machine_of self.old) reply.old }
     {
+        // No `?`: a take answers what it did, and cannot fail.
         let Some((header, rest)) = Header::read(bytes) else {
             return self.untouched(Refusal::Incomplete);
         };

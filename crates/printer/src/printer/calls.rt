@@ -5,6 +5,7 @@ ghost use Rattle.printer.specs.Ends.{areas, took_as, took, turned, turned_times,
 ghost use Rattle.printer.specs.Printers.{end_of, Run, made, bin_before, stacked_by, path_after, owed_by, received_by, flow_by, Receiving, Stands, Keeps, after_take, after_turn, after_jam, after_counters, after_owed, Turns};
 ghost use Rattle.spool.specs.Flows.{turn, turned as turned_by, owed};
 ghost use Rattle.spool.specs.Jobs.{Page, Proper, job_sheets};
+ghost use Rattle.spool.specs.Kept.{Kept};
 ghost use Rattle.spool.specs.Spools.{numbers_of, told};
 ghost use Rattle.spool.specs.Views.{flow_of};
 
@@ -16,11 +17,10 @@ use text::Mark;
 
 impl<E: Engine> Printer<E> {
     // A printer end over an engine, whatever that holds: its path is purged.
-    pub fn new(engine: E) -> Printer<E>
+    pub fn new(mut engine: E) -> Printer<E>
         ensures end { end_of E.Engine result ≡ made_end (E.paper engine).bin (E.paper engine).room }
         ensures law { Stands E.Engine (made (E.paper engine).bin) result }
     {
-        let mut engine = engine;
         let _ = engine.purge();
         Printer {
             engine,
@@ -72,11 +72,13 @@ impl<E: Engine> Printer<E> {
         self.lose_paper();
     }
 
-    // The five counters.
+    // The five counters; and what holds of every spool.
     pub fn counters(&self) -> Counters
         ensures told { told result ≡ numbers_of (end_of E.Engine self.now).machine.spool }
+        ensures kept { Kept (end_of E.Engine self.now).machine.spool }
         ensures law { Keeps E.Engine self.now self.now (after_counters result) }
     {
+        self.interpreter.spool.kept();
         self.interpreter.spool.counters()
     }
 
