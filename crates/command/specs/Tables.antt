@@ -2,7 +2,7 @@
 --   table     each code with its command, its data length and the states that allow it
 --   row_of     the row of a code
 --   kind_of   the command that a code names
---   ends      it is the end of a page
+--   ends      it is the end of a page: of the code D6BF and no other
 --   fits      a data length is the row's
 --   permits   a state allows the row's command
 use Rattle.std.specs.Prelude.{ℕ, Bool, true, false, List, [], ◌∷◌, Some, None, Option, ◌==◌}

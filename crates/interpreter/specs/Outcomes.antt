@@ -1,12 +1,12 @@
 -- What a take tells.
+--   Outcome       accepted, or refused on a ground
 --   number_told   0 for accepted, else the refusal's number
---   told         the bytes used, the outcome, the reply's length and the marks on the open or latest page
+--   told          the bytes used, the outcome, the reply's length and the marks on the open or latest page
 use Rattle.std.specs.Prelude.{ℕ, Ok, Err, Result}
 use Rattle.refusal.specs.declared.Refusal.{Refusal}
 use Rattle.refusal.specs.Refusals.{number_of}
 use Rattle.interpreter.specs.declared.taken.Taken.{Taken}
 
--- accepted, or why not
 abbrev pub Outcome : Type 0
 Outcome = Result (Unit {0}) Refusal
 
