@@ -87,7 +87,7 @@ impl Control {
         })
     }
 
-    // The control whose length is the first of the bytes.
+    // The control whose length is the first of the bytes. A slice pattern, which takes the length and the type at once.
     fn headed(before: usize, bytes: &[u8]) -> Result<Control, Refusal>
         requires { before ≤ 2 }
         ensures { result ≡ headed before bytes.now }
