@@ -20,10 +20,6 @@ by_end_at s (Err f) more P ok err = err f refl
 pub by_end : {F : Type 0} (o : Out F) (more : Canvas → Out F) (P : Out F → Type 0) → ((t : Canvas) → o ≡ done t → P (more t)) → ((f : F) → o.result ≡ Err f → P o) → P (and_then o more)
 by_end o more P ok err = by_end_at o.left o.result more P ok err
 
--- work ends one way
-pub ok_or_err : {A F : Type 0} (x : A) (f : F) → Ok x ≡ Err f → ⊥
-ok_or_err x f e = cc
-
 -- an error that is handed on is the one that was met
 pub handed_on : {T F : Type 0} {f : F} (r : Result T F) → IsErrAnd r (λ y. y ≡ f) → r ≡ Err f
 handed_on r h = let p = err_from_is_err_and r h in rw (p.1, p.2) refl
