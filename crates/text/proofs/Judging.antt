@@ -16,7 +16,6 @@ use Rattle.text.specs.Grounds as grounds
 use Rattle.text.specs.Grounds.{Unplaced, Misheaded, Unobeyed, misheaded, Ground}
 use Rattle.text.specs.Judging as judging
 use Rattle.text.specs.Judging.{Reach, here, Refuses, Judged}
-use Rattle.text.proofs.Outs.{ok_or_err}
 use Rattle.text.proofs.Why.{Why, weaker}
 use Rattle.text.proofs.Grounded.{why_character}
 use Rattle.text.proofs.Refusing.{why_control, why_obeyed}
@@ -72,9 +71,8 @@ past_control c at b bs s t l h (Err f) w n e did j =
 -- a control that is done and ends the bytes is not chained
 never_done : (s : Canvas) (r : Result (Unit {0}) Refusal) (more : Canvas → Out Refusal) (t : Canvas) → ((x : Canvas) → more x ≡ refused BadControl x) → and_then (out s r) more ≡ done t → ⊥
 never_done s (Ok x) more t m e =
-    ok_or_err _ _ (sym (ap (λ (o : Out Refusal). o.result) (sym (m s) ∙ e)))
-never_done s (Err f) more t m e =
-    ok_or_err _ _ (sym (ap (λ (o : Out Refusal). o.result) e))
+    let r : Err BadControl ≡ Ok tt = ap (λ (o : Out Refusal). o.result) (sym (m s) ∙ e) in cc
+never_done s (Err f) more t m e = let r : Err f ≡ Ok tt = ap (λ (o : Out Refusal). o.result) e in cc
 
 done_free : (h : Control) (bs : List ℕ) (s t : Canvas) → obeyed h bs s ≡ done t → length bs ≡ h.end → h.chained ≡ false
 unfolding obeyed

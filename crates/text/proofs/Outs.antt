@@ -1,5 +1,7 @@
 -- One piece of work after another.
-use Rattle.std.proofs.Common.{◌≡◌, ℕ, Ok, Err, Result, refl, arith}
+use Rattle.std.proofs.Common.{◌≡◌, Ok, Err, Result, refl}
+use Rattle.std.specs.Result.{IsErrAnd}
+use Rattle.std.proofs.lemmas.Result.{err_from_is_err_and}
 use Rattle.text.specs.Canvases.{Canvas, Out, out, done, and_then}
 
 then_assoc_at : {F : Type 0} (s : Canvas) (r : Result (Unit {0}) F) (f g h : Canvas → Out F) → ((t : Canvas) → f t ≡ and_then (g t) h) → and_then (out s r) f ≡ and_then (and_then (out s r) g) h
@@ -18,6 +20,6 @@ by_end_at s (Err f) more P ok err = err f refl
 pub by_end : {F : Type 0} (o : Out F) (more : Canvas → Out F) (P : Out F → Type 0) → ((t : Canvas) → o ≡ done t → P (more t)) → ((f : F) → o.result ≡ Err f → P o) → P (and_then o more)
 by_end o more P ok err = by_end_at o.left o.result more P ok err
 
--- work ends one way
-pub ok_or_err : {A F : Type 0} (x : A) (f : F) → Ok x ≡ Err f → ⊥
-ok_or_err x f e = let z : ◌≡◌ {A = ℕ} 0 1 = cc in omega arith
+-- an error that is handed on is the one that was met
+pub handed_on : {T F : Type 0} {f : F} (r : Result T F) → IsErrAnd r (λ y. y ≡ f) → r ≡ Err f
+handed_on r h = let p = err_from_is_err_and r h in rw (p.1, p.2) refl

@@ -9,7 +9,6 @@ use Rattle.text.specs.Runs.{fault, located_in, located}
 use Rattle.text.specs.Controls.{control_of}
 use Rattle.text.specs.Effects.{obeyed}
 use Rattle.text.specs.Texts.{begins, control_at, controlled, walk}
-use Rattle.text.proofs.Outs.{ok_or_err}
 
 -- what is left, from the canvas s on, gives end
 pub record Sofar (chained : Bool) (at : ℕ) (rest : List ℕ) (s : Canvas) (end : Out TextFault) : Type 0 where
@@ -39,7 +38,7 @@ turn rest h z b = turn_at rest h.fuel h.enough h.same z b
 
 headless : (at : ℕ) (rest : List ℕ) (s : Canvas) (n : ℕ) (r : Result Control Refusal) (f : TextFault) → located_in at r ≡ Err f → out s (Err f) ≡ controlled (walk n) at rest r s
 unfolding controlled
-headless at rest s n (Ok h) f e = absurd (ok_or_err _ _ e)
+headless at rest s n (Ok h) f e = cc
 headless at rest s n (Err r) f e = ap (out s) (let e' : Err f ≡ Err (fault r at) = sym e in ap (λ (x : TextFault). Err x) (let i : f ≡ fault r at = cc in i))
 
 pub no_header : {chained : Bool} {at : ℕ} (rest : List ℕ) {s : Canvas} {end : Out TextFault} (f : TextFault) → Sofar chained at rest s end → 0 < length rest → begins chained (get_or rest 0 0) ≡ true → control_at at chained rest ≡ Err f → out s (Err f) ≡ end
@@ -48,7 +47,7 @@ no_header {chained} {at} rest {s} f h z b e = let t = turn rest h z b in headles
 headed : (at : ℕ) (rest : List ℕ) (s : Canvas) (n : ℕ) (r : Result Control Refusal) (h : Control) → located_in at r ≡ Ok h → and_then (located at (obeyed h rest s)) (walk n h.chained (at + h.end) (drop h.end rest)) ≡ controlled (walk n) at rest r s
 unfolding controlled
 headed at rest s n (Ok x) h e = let i : h ≡ x = cc in ap (λ (y : Control). and_then (located at (obeyed y rest s)) (walk n y.chained (at + y.end) (drop y.end rest))) i
-headed at rest s n (Err r) h e = absurd (ok_or_err _ _ (sym e))
+headed at rest s n (Err r) h e = cc
 
 -- a control that was obeyed, or not
 module _ {chained : Bool} {at : ℕ} (rest : List ℕ) {s : Canvas} {end : Out TextFault} (h : Control) (s' : Canvas) (r : Result (Unit {0}) TextFault) (sofar : Sofar chained at rest s end) (z : 0 < length rest) (b : begins chained (get_or rest 0 0) ≡ true) (e : control_at at chained rest ≡ Ok h) (did : out s' r ≡ located at (obeyed h rest s)) where

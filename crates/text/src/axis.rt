@@ -51,6 +51,7 @@ impl Axis {
             Axis::Inline => MarkKind::InlineRule,
             Axis::Baseline => MarkKind::BaselineRule,
         };
+        // The number that the enum gives; a From would write each number again.
         kind as u8
     }
 }

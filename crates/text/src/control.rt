@@ -25,8 +25,8 @@ pub enum Kind {
 #[derive(Clone, Copy, Debug, PartialEq, Eq)]
 pub struct Control {
     pub kind: Kind,
-    // Another control follows directly. It stays a flag: the type's last bit says it, and an enum of two states would be
-    // made from that bit and taken apart again at each use.
+    // Another control follows directly. It stays a flag: the type's last bit says it, and an enum of two states would
+    // be made from that bit and taken apart again at each use.
     pub chained: bool,
     // Where its parameters begin and where it ends, counted from its first byte.
     pub start: usize,
@@ -87,7 +87,7 @@ impl Control {
         })
     }
 
-    // The control whose length is the first of the bytes.
+    // The control whose length is the first of the bytes. A slice pattern, which takes the length and the type at once.
     fn headed(before: usize, bytes: &[u8]) -> Result<Control, Refusal>
         requires { before ≤ 2 }
         ensures { result ≡ headed before bytes.now }

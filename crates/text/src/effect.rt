@@ -11,7 +11,8 @@ use crate::moves::shifted;
 use crate::writer::Writer;
 use refusal::Refusal;
 
-// Two bytes as a signed number.
+// Two bytes as a signed number. `word` and `two` are two: signed and unsigned numbers read their bytes by methods of
+// their own, so that one function would need a trait for two calls.
 fn word(parameters: &[u8], k: usize) -> i16
     requires { k + 1 < length parameters.now }
     ensures { result ≡ word parameters.now k }

@@ -28,15 +28,24 @@ impl TryFrom<u8> for Font {
     }
 }
 
-impl Font {
-    pub fn number(self) -> u8
-        ensures { result ≡ number_of self }
-    {
-        match self {
+// The number of a font.
+impl From<Font> for u8 {
+    ghost from_gives = { λ font number. number ≡ number_of font };
+
+    fn from(font: Font) -> u8 {
+        match font {
             Font::Ten => 1,
             Font::Twelve => 2,
             Font::Fifteen => 3,
         }
+    }
+}
+
+impl Font {
+    pub fn number(self) -> u8
+        ensures { result ≡ number_of self }
+    {
+        u8::from(self)
     }
 
     // How far a character advances, in 1/1440 inch: the same for every code in these fonts.

@@ -16,7 +16,7 @@ pub struct Mark {
 }
 
 // The kinds of the marks that text leaves.
-#[derive(Clone, Copy)]
+#[derive(Clone, Copy, Debug, PartialEq, Eq)]
 pub(crate) enum MarkKind {
     Character = 1,
     InlineRule = 2,

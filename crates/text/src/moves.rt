@@ -19,10 +19,10 @@ pub fn shifted(from: u16, by: i16) -> i32
 fn place(to: i32) -> Result<u16, Refusal>
     ensures { result ≡ place to }
 {
-    if to < 0 || to > 32767 {
-        return Err(Refusal::Outside);
+    match u16::try_from(to) {
+        Ok(to) if to <= 32767 => Ok(to),
+        _ => Err(Refusal::Outside),
     }
-    Ok(to as u16)
 }
 
 impl TextConditions {

@@ -18,7 +18,8 @@ impl Writer<'_> {
         self.put(step)
     }
 
-    // Characters from an offset on, each refused at its own.
+    // Characters from an offset on, each refused at its own. The place is counted, since a refusal tells it as its
+    // offset.
     pub(crate) fn run(&mut self, codes: &[u8], at: usize) -> Result<(), TextFault>
         requires { at + length codes.now < 2 ^ 64 }
         ensures same_list { self.new.marks.ghost_name ≡ self.old.marks.ghost_name }

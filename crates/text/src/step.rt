@@ -23,6 +23,7 @@ impl TextConditions {
         ensures { result ≡ marked code self }
     {
         Mark {
+            // The number that the enum gives; a From would write each number again.
             kind: MarkKind::Character as u8,
             i: self.i,
             b: self.b,

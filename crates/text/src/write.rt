@@ -62,7 +62,8 @@ impl Writer<'_> {
         })
     }
 
-    // Plain characters and controls, from left to right.
+    // Plain characters and controls, from left to right. `at` is counted beside `rest`: how far a step goes only its
+    // control tells, so no iterator gives the steps.
     fn write_all(&mut self, data: &[u8]) -> Result<(), TextFault>
         ensures same_list { self.new.marks.ghost_name ≡ self.old.marks.ghost_name }
         ensures text { out (canvas_of self.new) result ≡ text_of «data».now (canvas_of self.old) }

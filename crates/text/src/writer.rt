@@ -8,7 +8,9 @@ use crate::mark::Mark;
 use crate::step::Step;
 use refusal::Refusal;
 
-// The list is the caller's. New marks go to its places from the count on, in place.
+// The list is the caller's. New marks go to its places from the count on, in place. Clauses name `canvas_of` of it, and
+// each method says that the list is still the same one: a model would hide the list, and a type cannot speak of before
+// and after.
 #[derive(Drop)]
 pub struct Writer<'a> {
     pub marks: &'a mut [Mark],

@@ -1,12 +1,11 @@
 use Rattle.std.proofs.Common.{sym, ◌∙◌}
-use Rattle.std.proofs.lemmas.Result.{err_from_is_err_and}
+use Rattle.text.proofs.Outs.{handed_on}
 use Rattle.text.proofs.Effects.{obey_off, obey_chained, obey_done}
 use Rattle.text.proofs.writer.Writer.obey.Goals as goal
 
 pub returns-in_err-perform-clause-obeyed : goal.returns-in_err-perform-clause-obeyed
 returns-in_err-perform-clause-obeyed c =
-    let p = err_from_is_err_and c.from_residual.result c.from_residual.ensures.1 in
-    rw (p.1, p.2) (obey_off c.args.control c.args.bytes.now _ _ _ c.perform.ensures.effect _ c.in_err-perform.was)
+    rw (handed_on c.from_residual.result c.from_residual.ensures.1) (obey_off c.args.control c.args.bytes.now _ _ _ c.perform.ensures.effect _ c.in_err-perform.was)
 
 pub returns-then-lacks_successor-clause-obeyed : goal.returns-then-lacks_successor-clause-obeyed
 returns-then-lacks_successor-clause-obeyed c =

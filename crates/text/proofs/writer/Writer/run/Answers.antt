@@ -1,14 +1,13 @@
 use Rattle.std.proofs.Common.{◌≡◌, ◌+◌, ◌∙◌, arith, rules}
-use Rattle.std.proofs.lemmas.Result.{err_from_is_err_and}
 use Rattle.text.specs.Runs.{located_in}
 use Rattle.text.proofs.Runs.{run_on, run_off, run_end}
+use Rattle.text.proofs.Outs.{handed_on}
 use Rattle.text.proofs.writer.Writer.run.Goals as goal
 
 pub returns-in_err-map_err-clause-run : goal.returns-in_err-map_err-clause-run
 returns-in_err-map_err-clause-run c =
-    let p = err_from_is_err_and c.from_residual.result c.from_residual.ensures.1 in
     let q : c.map_err.result ≡ located_in (c.args.at + c.loop-k.k-counter) c.character.result = search rules in
-    rw (p.1, p.2) (run_off _ _ c.loop-k.k-counter _ _ _ _ _ _ (omega arith) c.character.ensures.character q c.in_err-map_err.was c.loop-k.invariant.1)
+    rw (handed_on c.from_residual.result c.from_residual.ensures.1) (run_off _ _ c.loop-k.k-counter _ _ _ _ _ _ (omega arith) c.character.ensures.character q c.in_err-map_err.was c.loop-k.invariant.1)
 
 pub loop-k-preserved : goal.loop-k-preserved
 loop-k-preserved c =

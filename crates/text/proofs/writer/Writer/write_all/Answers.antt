@@ -1,24 +1,22 @@
 use Rattle.std.proofs.Common.{eqb, length, get_or, sym, ap, ◌∙◌, arith, length-drop}
 use Rattle.std.proofs.lemmas.List.{take_rest}
-use Rattle.std.proofs.lemmas.Result.{err_from_is_err_and}
 use Rattle.std.proofs.lemmas.Bool.{or_parts}
 use Rattle.text.specs.Texts.{text_of}
 use Rattle.text.proofs.Plain.{plain_some}
 use Rattle.text.proofs.Turns.{ended, no_header, obeyed_on, obeyed_off}
 use Rattle.text.proofs.Placed.{placed_on, placed_off}
+use Rattle.text.proofs.Outs.{handed_on}
 use Rattle.text.proofs.writer.Writer.write_all.Goals as goal
 
 pub returns-in_err-control-clause-text : goal.returns-in_err-control-clause-text
 unfolding text_of
 returns-in_err-control-clause-text c =
-    let p = err_from_is_err_and c.from_residual.result c.from_residual.ensures.1 in
-    rw (p.1, p.2) (no_header _ _ c.loop-rest.invariant.1 (omega arith) (sym c.begins.ensures ∙ c.if-begins.true) (sym c.read_at.ensures.control ∙ c.in_err-control.was))
+    rw (handed_on c.from_residual.result c.from_residual.ensures.1) (no_header _ _ c.loop-rest.invariant.1 (omega arith) (sym c.begins.ensures ∙ c.if-begins.true) (sym c.read_at.ensures.control ∙ c.in_err-control.was))
 
 pub returns-in_err-obey_at-clause-text : goal.returns-in_err-obey_at-clause-text
 unfolding text_of
 returns-in_err-obey_at-clause-text c =
-    let p = err_from_is_err_and c.from_residual-in_err-obey_at.result c.from_residual-in_err-obey_at.ensures.1 in
-    rw (p.1, p.2) (obeyed_off _ c.in_ok-control.control _ _ c.loop-rest.invariant.1 (omega arith) (sym c.begins.ensures ∙ c.if-begins.true)
+    rw (handed_on c.from_residual-in_err-obey_at.result c.from_residual-in_err-obey_at.ensures.1) (obeyed_off _ c.in_ok-control.control _ _ c.loop-rest.invariant.1 (omega arith) (sym c.begins.ensures ∙ c.if-begins.true)
     (sym c.read_at.ensures.control ∙ c.in_ok-control.was) c.obey_at.ensures.obeyed _ c.in_err-obey_at.was)
 
 pub loop-rest-preserved-then-begins : goal.loop-rest-preserved-then-begins
@@ -35,9 +33,8 @@ loop-rest-preserved-then-begins c =
 pub returns-in_err-run-clause-text : goal.returns-in_err-run-clause-text
 unfolding text_of
 returns-in_err-run-clause-text c =
-    let p = err_from_is_err_and c.from_residual-in_err-run.result c.from_residual-in_err-run.ensures.1 in
     let not = or_parts _ _ (sym c.begins.ensures ∙ c.if-begins.false) in
-    rw (p.1, p.2) (placed_off c.loop-rest.rest.now c.plain-size.result _ _ _ not.0 c.loop-rest.invariant.1 c.plain-size.ensures.plain
+    rw (handed_on c.from_residual-in_err-run.result c.from_residual-in_err-run.ensures.1) (placed_off c.loop-rest.rest.now c.plain-size.result _ _ _ not.0 c.loop-rest.invariant.1 c.plain-size.ensures.plain
     c.run.ensures.run _ c.in_err-run.was)
 
 pub loop-rest-smaller : goal.loop-rest-smaller
