@@ -15,7 +15,7 @@ use Rattle.text.specs.Runs.{characters}
 use Rattle.text.specs.Cycles.{cycled}
 use Rattle.text.specs.Controls.{kind_of, sized, named, headed, control_of, parameters}
 use Rattle.text.specs.Effects.{two, word, width, repeated, effect, succeeded, obeyed}
-use Rattle.text.specs.Grounds.{body_of, Misheaded, not_introduced, no_length, too_short, too_long, not_its_length, unknown, target_of, Unperformed, no_position, no_font, letters, too_many, no_pattern, repetitions, off_page, rule_unplaced}
+use Rattle.text.specs.Grounds.{body_of, Misheaded, not_introduced, no_length, too_short, too_long, not_its_length, unknown, target_of, Unperformed, no_position, no_font, letters, too_many, no_pattern, repetitions, off_page, list_full_rule}
 use Rattle.text.proofs.Grounded.{Far}
 use Rattle.std.proofs.lemmas.Option.{none-some}
 use Rattle.text.proofs.Failing.{Bad, Fails, fails_then, fails_since, fails_characters, fails_moved, off_spans, ruled_off, ruled_full}
@@ -116,7 +116,7 @@ fails_effect k ps s r (repetitions e u) = subst (λ k. Fails (effect k ps s)) (s
 fails_effect k ps s r (off_page {axis} e u o) =
     subst (λ k. Fails (effect k ps s)) (sym e)
     (ruled_off axis _ (word ps 0) (width (usual_width axis) ps) s u (elim o [ inl h ↦ and_left _ _ (off_spans _ _ _ h) | inr h ↦ and_right _ _ (off_spans _ _ _ h) ]))
-fails_effect k ps s r (rule_unplaced {axis} e u h) = subst (λ k. Fails (effect k ps s)) (sym e) (ruled_full axis _ (word ps 0) (width (usual_width axis) ps) s u h)
+fails_effect k ps s r (list_full_rule {axis} e u h) = subst (λ k. Fails (effect k ps s)) (sym e) (ruled_full axis _ (word ps 0) (width (usual_width axis) ps) s u h)
 
 -- and the successor
 pub fails_obeyed : (h : Control) (bs : List ℕ) (s : Canvas) → Fails (effect h.kind (parameters h bs) s) → Fails (obeyed h bs s)

@@ -17,7 +17,7 @@ use Rattle.text.specs.Runs.{characters}
 use Rattle.text.specs.Cycles.{cycled}
 use Rattle.text.specs.Controls.{kind_of, sized, named, control, headed, control_of, parameters}
 use Rattle.text.specs.Effects.{two, word, width, repeated, effect, succeeded, obeyed}
-use Rattle.text.specs.Grounds.{body_of, Misheaded, not_introduced, no_length, too_short, too_long, not_its_length, unknown, Unplaceds, Unperformed, no_position, no_font, letters, too_many, no_pattern, repetitions, off_page, rule_unplaced, Unobeyed, unperformed, no_successor}
+use Rattle.text.specs.Grounds.{body_of, Misheaded, not_introduced, no_length, too_short, too_long, not_its_length, unknown, Unplaceds, Unperformed, no_position, no_font, letters, too_many, no_pattern, repetitions, off_page, list_full_rule, Unobeyed, unperformed, no_successor}
 use Rattle.text.proofs.Why.{Why, why_then, weaker}
 use Rattle.text.proofs.Grounded.{why_characters, why_moved, off, why_ruled}
 
@@ -80,7 +80,7 @@ why_effect (Rule axis) ps s =
     let x = spans (position axis s.conditions) (word ps 0) (extent axis) in
     let y = spans (position (across axis) s.conditions) w (extent (across axis)) in
     why_ruled axis (x && y) (word ps 0) w s (Unperformed (Rule axis) ps s)
-    (λ some e. off_page refl some (elim (and_cases x y e) [ inl p ↦ inl (off _ _ _ p) | inr p ↦ inr (off _ _ _ p) ])) (rule_unplaced refl)
+    (λ some e. off_page refl some (elim (and_cases x y e) [ inl p ↦ inl (off _ _ _ p) | inr p ↦ inr (off _ _ _ p) ])) (list_full_rule refl)
 
 pub why_obeyed : (c : Bool) (bs : List ℕ) (s : Canvas) (h : Control) → control_of c bs ≡ Ok h → Why (obeyed h bs s).result (Unobeyed c bs s)
 unfolding obeyed

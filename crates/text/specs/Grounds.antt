@@ -76,7 +76,7 @@ pub data Unperformed (k : Kind) (ps : List ℕ) (s : Canvas) : Refusal → Type 
   no_pattern : k ≡ Repeat → 0 < two ps 0 → length (drop 2 ps) ≡ 0 → Unperformed k ps s BadControl
   repetitions : {r : Refusal} → k ≡ Repeat → Unplaceds (cycled (two ps 0) (drop 2 ps)) s r → Unperformed k ps s r
   off_page : {axis : Axis} → k ≡ Rule axis → Ruled (word ps 0) (width (usual_width axis) ps) → Off (position axis s.conditions) (word ps 0) (extent axis) ⊎ Off (position (across axis) s.conditions) (width (usual_width axis) ps) (extent (across axis)) → Unperformed k ps s Outside
-  rule_unplaced : {axis : Axis} → k ≡ Rule axis → Ruled (word ps 0) (width (usual_width axis) ps) → length s.marks ≤ s.count → Unperformed k ps s MarksFull
+  list_full_rule : {axis : Axis} → k ≡ Rule axis → Ruled (word ps 0) (width (usual_width axis) ps) → length s.marks ≤ s.count → Unperformed k ps s MarksFull
 
 pub data Unobeyed (chained : Bool) (bs : List ℕ) (s : Canvas) : Refusal → Type 0 where
   misheaded : {r : Refusal} → Misheaded chained bs r → Unobeyed chained bs s r

@@ -1,7 +1,7 @@
 -- What a character does where the text stands, and how a step is taken on a canvas.
 --   step        a mark, if any, and the conditions after it
 --   fits        a character stands within the page: its end inline, and its baseline
---   marked      a character's mark: kind 1, its code and its font
+--   marked      a character's mark: kind 1, its code and its font's number
 --   onward      the position inline, moved on
 --   lettered    the step of a character: a space moves on and leaves no mark; outside the page there is none
 --   put         a mark, if any, goes to the first free place, where there is one, and the conditions follow

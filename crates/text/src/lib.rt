@@ -17,7 +17,6 @@ mod theorems;
 mod write;
 mod writer;
 
-pub use axis::Axis;
 pub use conditions::TextConditions;
 pub use fault::TextFault;
 pub use font::Font;
