@@ -1,13 +1,29 @@
 -- The place of a code in a list, and that each place of the table is the first with its code.
-use Rattle.std.proofs.Common.{◌≡◌, ℕ, zero, suc, ◌+◌, ◌-◌, ◌<◌, ◌≤◌, Bool, true, ◌&&◌, ◌==◌, cond, eqb, ltb, List, refl, ap, ◌∙◌, ⊎_elim, arith}
+use Rattle.std.proofs.Common.{◌≡◌, ℕ, zero, suc, ◌+◌, ◌-◌, ◌<◌, ◌≤◌, Bool, true, ◌&&◌, ◌==◌, cond, eqb, ltb, List, refl, ap, ◌∙◌, ⊎_elim, Option, Some, None, unwrap_or, length, false, not, sym, arith}
 use Rattle.std.specs.List.{position_or_len}
 use Rattle.std.proofs.lemmas.List.Recursion.{is_position_or_len}
-use Rattle.std.proofs.lemmas.Bool.{cond-true, cases_eq, and_parts, eqb-true, lt-ltb}
+use Rattle.std.proofs.lemmas.List.Sums.{prefix_len-le-length}
+use Rattle.std.proofs.lemmas.Bool.{cond-true, cases_eq, and_parts, eqb-true, lt-ltb, ltb-false}
 use Rattle.compose.specs.Ebcdic.{table, place_in, code_at, ascii_of}
 
 -- the first place of a code is where the library finds it
 pub found : (cs : List ℕ) (code : ℕ) → place_in cs code ≡ position_or_len (λ c. c == code) cs
 found cs code = is_position_or_len (λ cs. place_in cs code) (λ c. c == code) refl (λ c cs. ap (λ k. cond (c == code) 0 k) (omega arith)) cs
+
+-- a place where it is below the length, and else the length
+place_or : (place size : ℕ) → place ≤ size → unwrap_or (cond (ltb place size) (Some place) None) size ≡ place
+place_or place size le = by (ltb place size) refl
+  where
+    by : (b : Bool) → ltb place size ≡ b → unwrap_or (cond b (Some place) None) size ≡ place
+    by true e = refl
+    by false e = let above = ltb-false place size e in omega arith
+
+-- the place that the library finds, or the length
+pub found_or_length : (code : ℕ) (r : Option ℕ) → r ≡ cond (ltb (position_or_len (λ c. c == code) table) (length table)) (Some (position_or_len (λ c. c == code) table)) None → unwrap_or r (length table) ≡ place_in table code
+found_or_length code r e =
+    let p = position_or_len (λ c. c == code) table in
+    let le : p ≤ length table = prefix_len-le-length (λ c. not (c == code)) table in
+    ap (λ o. unwrap_or o (length table)) e ∙ place_or p (length table) le ∙ sym (found table code)
 
 -- every place below a number is the first with its code
 firsts : List ℕ → ℕ → Bool

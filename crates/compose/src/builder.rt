@@ -10,7 +10,7 @@ use std::alloc::{AllocError, Global};
 const MOST: usize = 32767;
 
 // The types of the controls that draw rules, by the direction of the rule's length.
-#[derive(Clone, Copy)]
+#[derive(Clone, Copy, Debug, PartialEq, Eq)]
 enum Rule {
     Inline = 0xE4,
     Baseline = 0xE6,
@@ -40,7 +40,8 @@ impl WriteText {
             .extend_from_slice(&[0x2B, 0xD3, 0x04, 0xC7, i0, i1, 0x04, 0xD2, b0, b1])
     }
 
-    // What follows is in this font.
+    // What follows is in this font. Any number: a host may name a font that the printer refuses, so that a type of the
+    // fonts would ask more.
     pub fn font(&mut self, number: u8) -> Result<(), AllocError>
         ensures { OnOk result (self.new.text.items ≡ self.old.text.items ++ font_control number) }
     {
@@ -62,6 +63,7 @@ impl WriteText {
     fn rule(&mut self, control: Rule, length: i16, width: i16) -> Result<(), AllocError>
         ensures { OnOk result (self.new.text.items ≡ self.old.text.items ++ rule_control (rule_type control) length width) }
     {
+        // The number that the enum gives: a From would write each number again.
         let control = control as u8;
         let [l0, l1] = length.to_be_bytes();
         let [w0, w1] = width.to_be_bytes();
@@ -91,6 +93,7 @@ impl WriteText {
         if size > MOST - 5 {
             return Ok(None);
         }
+        // The cast loses nothing, by the test before it.
         let [high, low] = ((size + 5) as u16).to_be_bytes();
         let mut bytes = Vec::from_slice(heap, &[high, low, 0xD6, 0x2D, 0x00])?;
         bytes.extend_from_slice(self.text.as_slice())?;

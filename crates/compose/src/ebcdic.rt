@@ -15,21 +15,10 @@ const CODES: [u8; 95] = [
 const QUESTION_MARK: u8 = 0x6F;
 
 // The first place of a code; how many there are where it is at none.
-fn place_in(codes: &[u8], code: u8) -> usize
-    ensures { result ≡ place_in codes.now code }
-{
-    match codes.iter().position(|c| *c == code) {
-        Some(place) => place,
-        None => codes.len(),
-    }
-}
-
-// A search of the table itself was tried, and its proof did not close: what the search says of the codes there, written
-// out, fits no lemma.
 fn place_in_table(code: u8) -> usize
     ensures { result ≡ place_in table code }
 {
-    place_in(&CODES, code)
+    CODES.iter().position(|c| *c == code).unwrap_or(CODES.len())
 }
 
 // The code at a place; the question mark's behind the last.
@@ -56,5 +45,6 @@ pub fn to_ascii(code: u8) -> u8
     ensures { result ≡ ascii_of code }
 {
     let place = place_in_table(code);
+    // The cast loses nothing, by the test before it.
     if place < 95 { b' ' + place as u8 } else { b'?' }
 }

@@ -6,7 +6,7 @@ use script::Areas;
 use std::alloc::{AllocError, Global};
 use text::Mark;
 
-// A buffer, of which a front is handed out.
+// A buffer, of which a front is handed out. It is kept whole, since what lies behind a front that shrinks is still told.
 #[derive(Drop)]
 struct Area<T> {
     items: Vec<T>,
@@ -25,6 +25,11 @@ impl<T: Copy> Area<T> {
     fn front(&mut self) -> &mut [T] {
         let size = self.size.min(self.items.len());
         &mut self.items[..size]
+    }
+
+    // The first so many items, as far as there are so many.
+    fn first(&self, n: usize) -> &[T] {
+        &self.items[..n.min(self.items.len())]
     }
 }
 
@@ -48,6 +53,7 @@ impl Buffers {
         })
     }
 
+    // Casts here and below, since the library has no From between `u32` and `usize`.
     pub(crate) fn resize(&mut self, areas: Areas) {
         self.reply.size = areas.reply as usize;
         self.marks.size = areas.marks as usize;
@@ -67,13 +73,11 @@ impl Buffers {
 
     // The marks of the open or latest page.
     pub(crate) fn placed(&self) -> &[Mark] {
-        let n = self.placed.min(self.marks.items.len());
-        &self.marks.items[..n]
+        self.marks.first(self.placed)
     }
 
     pub(crate) fn reply(&self, size: usize) -> &[u8] {
-        let n = size.min(self.reply.items.len());
-        &self.reply.items[..n]
+        self.reply.first(size)
     }
 
     pub(crate) fn memory(&self, at: u32, size: u32) -> &[u8] {

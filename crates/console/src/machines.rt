@@ -6,6 +6,8 @@ use std::alloc::{AllocError, Global};
 use std::io;
 use std::io::Read;
 
+// The program that prints a register has a trait of its own: what each tells differs, and the making of the two engines
+// alone is alike.
 pub trait Machine: Engine + Drop + Sized {
     // The words that announce it, before its room.
     const NAME: &'static str;
@@ -26,6 +28,7 @@ impl Machine for TrackEngine {
     // A sheet a line.
     fn tell<R: Read>(self, player: &mut Player<R>) -> io::Result<()> {
         let (list, stacked) = self.into_list();
+        // A cast here and below, since the library has no From between `usize` and `u64`.
         player.say_number("bin ", stacked as u64)?;
         for sheet in list.iter().take(stacked) {
             let line = lines::sheet_line(player.heap, "sheet ", *sheet, "")?;

@@ -18,6 +18,7 @@ use std::{env, io};
 // A session over an engine of so much room.
 fn on<M: Machine, R: Read>(player: &mut Player<R>, room: u32) -> io::Result<Next> {
     player.say_number(M::NAME, u64::from(room))?;
+    // A cast, since the library has no From between `u32` and `usize`.
     let machine = M::with_room(player.heap, room as usize)?;
     let (machine, next) = session(player, machine)?;
     machine.tell(player)?;

@@ -1,8 +1,6 @@
 // Reads the script line by line and writes the answers.
-use crate::buffers::Buffers;
-use crate::calls::perform;
+use crate::calls::Session;
 use engine::Engine;
-use printer::Printer;
 use script::{Call, EngineKind, parse};
 use std::alloc::Global;
 use std::io;
@@ -20,7 +18,7 @@ pub struct Player<R: Read> {
 }
 
 // How a session ended: the script asks for an engine of so much room, it ended the printer end, or it is over.
-#[derive(Clone, Copy)]
+#[derive(Clone, Copy, Debug, PartialEq, Eq)]
 pub enum Next {
     Engine(EngineKind, u32),
     Nothing,
@@ -46,7 +44,8 @@ impl<R: Read> Player<R> {
 
     // The next call; None behind the last. A malformed line is told and passed.
     fn next_call(&mut self) -> io::Result<Option<Call<Vec<u8>>>> {
-        // The library's lines would be read with no look at what waits, so that no answer could be written first.
+        // The library's lines would be read with no look at what waits, so that no answer could be written first;
+        // nor has a loop until the end a measure.
         for _ in 0..u64::MAX {
             if self.input.buffer().is_empty() {
                 self.flush()?;
@@ -90,8 +89,7 @@ pub(crate) fn session<E: Engine + Drop, R: Read>(
     player: &mut Player<R>,
     engine: E,
 ) -> io::Result<(E, Next)> {
-    let mut printer = Printer::new(engine);
-    let mut buffers = Buffers::new(player.heap)?;
+    let mut session = Session::new(player.heap, engine)?;
     let mut next = Next::End;
     // A script has no known end, so that a loop while there is a call has no measure.
     for _ in 0..u64::MAX {
@@ -105,10 +103,10 @@ pub(crate) fn session<E: Engine + Drop, R: Read>(
                 next = Next::Nothing;
                 break;
             }
-            Some(call) => perform(player, &mut printer, &mut buffers, call)?,
+            Some(call) => session.perform(player, call)?,
         }
     }
-    Ok((printer.into_engine(), next))
+    Ok((session.into_engine(), next))
 }
 
 // With no printer end only an engine line can be played.

@@ -2,7 +2,8 @@
 ghost use Rattle.std.specs.Prelude.{◌≡◌, ◌+◌, ◌<◌, length};
 ghost use Rattle.host.specs.Hosts.{two_at, counted_at, number_in, reply_in};
 
-// So many complete pages, and so many copies of the page behind them.
+// So many complete pages, and so many copies of the page behind them. No tally of the engine: a host reads two bytes of
+// copies, which are more than a tally holds.
 #[derive(Clone, Copy, PartialEq, Eq, Debug)]
 pub struct Counted {
     pub pages: u16,
@@ -14,7 +15,8 @@ pub struct Reply {
     pub received: u16,
     pub committed: Counted,
     pub stacked: Counted,
-    // The number of the refusal that a negative reply tells; None in an acknowledgement.
+    // The number of the refusal that a negative reply tells; None in an acknowledgement. As a number,
+    // since 7 stands for two refusals.
     pub number: Option<u8>,
 }
 

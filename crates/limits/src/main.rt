@@ -2,7 +2,7 @@
 // the console.
 #![tactic(auto)]
 
-use engine::{Sheet, Tally};
+use engine::Sheet;
 use engines::TrackEngine;
 use host::{begin_page, end_page};
 use interpreter::Taken;
@@ -12,12 +12,9 @@ use text::Mark;
 
 const MOST: u32 = 65535;
 
-// Pages and copies.
-fn counts(tally: Tally) -> (u64, u64) {
-    (u64::from(tally.pages.0), u64::from(tally.copies.0))
-}
-
-// A printer end and its reply area. No text is sent, so there is no mark list and no memory.
+// A printer end and its reply area. No text is sent, so there is no mark list and no memory. The programs that play a
+// script or print a register have a session of their own: what each does and tells differs, and these fields alone are
+// alike.
 #[derive(Drop)]
 struct Session {
     printer: Printer<TrackEngine>,
@@ -55,14 +52,15 @@ impl Session {
         let told = lines::counters_line(
             rt.alloc(),
             u64::from(c.received.0),
-            counts(c.committed),
-            counts(c.stacked),
+            lines::counts(c.committed),
+            lines::counts(c.stacked),
         )?;
         rt.print(told.as_str())
     }
 }
 
 fn main(rt: HostRuntime) -> io::Result<()> {
+    // A cast, since the library has no From between `u32` and `usize`.
     let list = vec![in rt.alloc(); Sheet::default(); MOST as usize]?;
     let mut session = Session {
         printer: Printer::new(TrackEngine::new(list)),

@@ -2,10 +2,11 @@
 ghost use Rattle.std.specs.Prelude.{◌≡◌, IfOk, string_bytes};
 ghost use Rattle.lines.specs.Answers.{take_line, counters_line, mark_line, areas_line};
 
+use engine::Tally;
 use script::Areas;
 use std::alloc::{AllocError, Global};
 
-// Of what a take answers only numbers are told, so they are passed as they are: its own type would say no more here.
+// What a take tells is narrower than these numbers, so that its type would ask more of a caller.
 pub fn take_line(
     heap: Global,
     used: usize,
@@ -16,6 +17,13 @@ pub fn take_line(
     ensures { IfOk result (λ s. string_bytes s ≡ take_line used number reply marks) }
 {
     format!(in heap; "take used={used} number={number} reply={reply} marks={marks}\n")
+}
+
+// The pages and the copies of a tally, as the line of the counters takes them.
+pub fn counts(tally: Tally) -> (u64, u64)
+    ensures { result ≡ (tally.pages.0, tally.copies.0) }
+{
+    (u64::from(tally.pages.0), u64::from(tally.copies.0))
 }
 
 // Pages received, and the pages and copies that are committed and stacked. The counters of a printer end are narrower

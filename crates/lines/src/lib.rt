@@ -5,6 +5,6 @@ mod answers;
 mod plain;
 mod sheets;
 
-pub use answers::{areas_line, counters_line, mark_line, take_line};
+pub use answers::{areas_line, counters_line, counts, mark_line, take_line};
 pub use plain::{hex_line, memory_line, number_line};
 pub use sheets::sheet_line;

@@ -11,7 +11,7 @@ pub(crate) fn heading(rt: &HostRuntime, text: &str) -> io::Result<()> {
 pub(crate) fn hex(heap: Global, bytes: &[u8]) -> Result<String, AllocError> {
     let mut text = String::new(heap);
     for b in bytes {
-        let _ = write!(text, "{b:02X} ");
+        write!(text, "{b:02X} ")?;
     }
     Ok(text)
 }

@@ -1,5 +1,6 @@
 // A host and its printer end, step by step.
 use crate::console::{line, note};
+use command::Refusal;
 use engine::{Advanced, Engine};
 use host::{Page, Reply, begin_page, end_page, load_copy_control, no_operation};
 use interpreter::Taken;
@@ -34,26 +35,24 @@ impl<E: Engine + Drop> Session<E> {
         let taken = self
             .printer
             .take(bytes, &mut self.reply, &mut marks, &mut memory);
-        let number = taken.number();
-        match number {
-            0 => {}
-            21 => note(
+        match taken.outcome {
+            Ok(()) => {}
+            Err(Refusal::ReplyPending) => note(
                 rt,
                 "printer",
                 "discards it, since a negative reply waits to be fetched (number 21)",
             )?,
-            _ => println!(rt; "printer refuses it with number {number}")?,
+            Err(refusal) => {
+                let number = refusal.number();
+                println!(rt; "printer refuses it with number {number}")?;
+            }
         }
         Ok(taken)
     }
 
     // Tells what a reply says.
     fn told(&self, rt: &HostRuntime, taken: Taken) -> io::Result<Option<Reply>> {
-        let size = taken.reply;
-        if size > 40 {
-            return Ok(None);
-        }
-        let bytes = &self.reply[0..size];
+        let bytes = self.reply.get(..taken.reply).unwrap_or(&[]);
         let Some(r) = Reply::read(bytes) else {
             return Ok(None);
         };

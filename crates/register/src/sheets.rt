@@ -21,7 +21,8 @@ pub(crate) fn wanted(heap: Global, register: &[Page]) -> Result<Vec<Sheet>, Allo
     Ok(sheets)
 }
 
-// An engine that the register is printed on.
+// An engine that the register is printed on. The program that plays a script has a trait of its own: what each tells
+// differs, and the making of the two engines alone is alike.
 pub trait Machine: Engine + Drop + Sized {
     const TITLE: &'static str;
 

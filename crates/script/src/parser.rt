@@ -106,12 +106,14 @@ fn with_numbers(word: &[u8], rest: &[u8]) -> Option<Call<Vec<u8>>>
 fn poke(heap: Global, rest: &[u8]) -> Result<Option<Call<Vec<u8>>>, AllocError>
     ensures { IfOk result (λ call. seen call ≡ poke_of rest.now) }
 {
+    // No `?`: a malformed line is an answer here and no error.
     let (at, Some(word)) = first_word(rest) else {
         return Ok(None);
     };
     let Some(at) = number_up_to(at, MEMORY) else {
         return Ok(None);
     };
+    // A cast, since the library has no From between `u32` and `usize`.
     match hex(heap, word)? {
         Some(bytes) if bytes.len() <= (MEMORY - at) as usize => Ok(Some(Call::Poke { at, bytes })),
         _ => Ok(None),
