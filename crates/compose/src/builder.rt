@@ -78,7 +78,7 @@ impl WriteText {
         self.rule(Rule::Inline, length, width)
     }
 
-    // The same with its length in the baseline direction.
+    // The same with its length in the baseline direction. A name of its own for each, over one function.
     pub fn rule_b(&mut self, length: i16, width: i16) -> Result<(), AllocError>
         ensures { OnOk result (self.new.text.items ≡ self.old.text.items ++ rule_control 0xE6 length width) }
     {

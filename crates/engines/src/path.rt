@@ -31,6 +31,7 @@ impl<B: Bin, const K: usize> PathEngine<B, K> {
     }
 }
 
+// The trait's clauses stand again, in words of `paper_of`, since each call says of the bin itself too.
 impl<B: Bin, const K: usize> Engine for PathEngine<B, K> {
     ghost use Rattle.std.specs.Prelude.{◌≡◌, length};
     ghost use Rattle.engine.specs.Engines.{taken, fed, advance, advanced, purged};

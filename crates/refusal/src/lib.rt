@@ -98,6 +98,7 @@ impl From<Layer> for u8 {
 }
 
 impl Refusal {
+    // No From: two grounds have one number, so it is not the ground in another type.
     pub fn number(self) -> u8
         ensures { result ≡ number_of self }
     {
