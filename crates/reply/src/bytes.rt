@@ -8,7 +8,7 @@ use refusal::{Fault, Place};
 use spool::Counters;
 
 // What a reply says of the command, by its type byte.
-#[derive(Clone, Copy)]
+#[derive(Clone, Copy, Debug, PartialEq, Eq)]
 pub enum ReplyType {
     Acknowledgement = 0x00,
     Negative = 0x80,
@@ -26,6 +26,7 @@ fn tally_of(tally: Tally) -> [u8; 4]
 pub fn heading_of(size: u8, reply: ReplyType, counters: Counters) -> [u8; 16]
     ensures { result ≡ heading size (type_of reply) (told counters) }
 {
+    // The byte that the enum gives; a From would write each byte again.
     let kind = reply as u8;
     let [r0, r1] = counters.received.0.to_be_bytes();
     let [c0, c1, c2, c3] = tally_of(counters.committed);
