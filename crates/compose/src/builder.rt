@@ -59,7 +59,8 @@ impl WriteText {
         Ok(())
     }
 
-    // A rule of one of the two types.
+    // A rule of one of the two types. Length and width are two numbers of one control: a struct of them would be made and
+    // taken apart at once.
     fn rule(&mut self, control: Rule, length: i16, width: i16) -> Result<(), AllocError>
         ensures { OnOk result (self.new.text.items ≡ self.old.text.items ++ rule_control (rule_type control) length width) }
     {

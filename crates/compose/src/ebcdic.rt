@@ -14,7 +14,8 @@ const CODES: [u8; 95] = [
 
 const QUESTION_MARK: u8 = 0x6F;
 
-// The first place of a code; how many there are where it is at none.
+// The first place of a code; how many there are where it is at none. No Option: `ascii_of` asks once whether the place is
+// in the table.
 fn place_in_table(code: u8) -> usize
     ensures { result ≡ place_in table code }
 {

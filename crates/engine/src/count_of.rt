@@ -40,6 +40,7 @@ impl Tally {
         ensures tally { option_map counted result ≡ tally_in (pair 0 0) sheets.now }
         ensures words { (ss : List Paper) → Tallied ss }
     {
+        // A loop: with the library's `try_fold` the proof did not close.
         let mut tally = Tally::none();
         for sheet in sheets {
             tally = tally.plus(*sheet)?;

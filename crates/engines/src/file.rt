@@ -63,7 +63,7 @@ impl FileEngine {
         PathEngine::over(Records { bytes, stacked: 0 })
     }
 
-    // The bytes, and how many of them are used.
+    // The bytes as they were handed in, with all their places, and how many of them are used.
     pub fn into_bytes(self) -> (Vec<u8>, usize)
         ensures bytes { result.0 ≡ self.bin.bytes }
         ensures used { result.1 ≡ 8 * self.bin.stacked }

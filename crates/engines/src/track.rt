@@ -55,7 +55,7 @@ impl TrackEngine {
         PathEngine::over(SheetList { list, stacked: 0 })
     }
 
-    // The list, and how many sheets it has.
+    // The list as it was handed in, with all its places, and how many of them have sheets.
     pub fn into_list(self) -> (Vec<Sheet>, usize)
         ensures list { result.0 ≡ self.bin.list }
         ensures stacked { result.1 ≡ self.bin.stacked }

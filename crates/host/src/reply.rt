@@ -21,7 +21,7 @@ pub struct Reply {
 }
 
 // The two bytes at a place, the high one first. A pattern would name sixteen bytes where five numbers are read, which is
-// no plainer.
+// no plainer. The crate `text` reads two bytes too; the host's side and text know nothing of each other.
 fn two_at(bytes: &[u8], at: usize) -> u16
     requires { at + 1 < length bytes.now }
     ensures { result ≡ two_at bytes.now at }

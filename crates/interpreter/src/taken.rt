@@ -17,7 +17,7 @@ pub struct Taken {
 }
 
 impl Taken {
-    // The refusal's number; 0 where the command was accepted, as a take is told outside. `outcome` says it in full.
+    // The refusal's number; 0 where the command was accepted, as the rules tell an outcome. `outcome` says it in full.
     pub fn number(self) -> u8
         ensures { result ≡ number_told self.outcome }
     {

@@ -6,7 +6,7 @@ use engine::Tally;
 use script::Areas;
 use std::alloc::{AllocError, Global};
 
-// What a take tells is narrower than these numbers, so that its type would ask more of a caller.
+// The number is any byte, which an outcome's is not, so that the type of what a take tells would ask more of a caller.
 pub fn take_line(
     heap: Global,
     used: usize,

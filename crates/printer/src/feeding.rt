@@ -18,7 +18,8 @@ pub fn advance_once<E: Engine>(engine: &mut E, spool: &mut Spool) -> Advanced
     advanced
 }
 
-// What the engine takes the spool commits. Answers whether a sheet was fed, as a turn tells it.
+// What the engine takes the spool commits. Answers whether a sheet was fed: a turn tells that and no
+// ground, so an error would be let go at once.
 pub fn feed_next<E: Engine>(engine: &mut E, spool: &mut Spool) -> bool
     ensures answer { result ≡ feeds_v E.K (view (E.paper engine.old) spool.old) }
     ensures view { view (E.paper engine.new) spool.new ≡ feed_v E.K (view (E.paper engine.old) spool.old) }

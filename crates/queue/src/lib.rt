@@ -1,7 +1,8 @@
 // A queue is the first `count` places of a slice; the places behind them are free.
 // A count beyond the slice is refused, so no call asks anything of its caller.
 // `Queue` holds places of its own with their count, where the places need not be the caller's; here slice and count
-// stand side by side, since these operations serve any slice. Each has one ground to do nothing, so a bool tells it.
+// stand side by side, since these operations serve any slice. What is asked for is in the queue or is not, so a bool
+// tells it.
 #![tactic(auto)]
 
 ghost use Rattle.std.specs.Prelude.{◌≡◌, ◌+◌, ◌<◌, ◌≤◌, length, if◌then◌else◌, nat_lt, slice_set};

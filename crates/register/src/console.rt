@@ -1,4 +1,4 @@
-// Lines of the story.
+// The lines that are printed.
 use std::alloc::{AllocError, Global};
 use std::fmt::Write;
 use std::io;

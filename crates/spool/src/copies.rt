@@ -3,7 +3,8 @@ ghost use Rattle.std.specs.Prelude.{◌≡◌, ◌<◌, if◌then◌else◌, Som
 
 use std::marker::Model;
 
-// From 1 to 255 copies. Clauses see the number.
+// From 1 to 255 copies. Clauses see the number. Not the library's NonZeroU8: a number of copies is a type of its own, so
+// that no other number stands in for it.
 #[derive(Clone, Copy, Debug, PartialEq, Eq)]
 pub struct Copies {
     count: u8,

@@ -1,5 +1,5 @@
 // The counters of a printer end, the pages that wait to be fed, and the sheets in the engine's path.
-// The spool keeps its own line of these sheets, so that its counters hang on nothing outside it.
+// The spool keeps its own line of these sheets, so that its counters need nothing outside it.
 use crate::page::WaitingPage;
 use engine::{PageCount, Sheet, Tally};
 use queue::Queue;

@@ -20,7 +20,7 @@ fn word(parameters: &[u8], k: usize) -> i16
     i16::from_be_bytes([parameters[k], parameters[k + 1]])
 }
 
-// The first two bytes as they are.
+// The first two bytes as they are. The host's side reads two bytes too, and knows nothing of text.
 fn two(parameters: &[u8]) -> u16
     requires { 1 < length parameters.now }
     ensures { result ≡ two parameters.now 0 }

@@ -1,4 +1,5 @@
-// Why a text is refused, and where.
+// Why a text is refused, and where. It is made where a refusal is handed on, by a closure that knows the offset: a function
+// would need that closure too.
 use refusal::Refusal;
 
 #[derive(Clone, Copy, Debug, PartialEq, Eq)]

@@ -35,6 +35,7 @@ impl Spool {
     pub fn kept(&self)
         ensures { Kept self.now }
     {
+        // A look at a field: by it the check learns what the type holds.
         let _ = &self.received;
     }
 

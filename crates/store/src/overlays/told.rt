@@ -28,6 +28,7 @@ impl Overlays {
     pub(super) fn is_full(&self) -> bool
         ensures { result ≡ full self.now.entries }
     {
+        // At least, as the definition says; the queue's own `is_full` says exactly.
         self.count() >= MOST
     }
 
