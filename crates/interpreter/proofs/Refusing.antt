@@ -1,5 +1,5 @@
 -- Where the checks of a take end.
-use Rattle.std.proofs.Common.{◌≡◌, ℕ, ◌-◌, ◌<◌, ◌≤◌, true, false, List, length, take, drop, Some, None, Result, sym, ap, ◌∙◌, arith}
+use Rattle.std.proofs.Common.{◌≡◌, ℕ, ◌<◌, ◌≤◌, true, false, List, length, Some, None, Result, sym, ap, ◌∙◌}
 use Rattle.std.proofs.lemmas.Bool.{le-ltb, lt-ltb, cond-false, cond-true}
 use Rattle.command.specs.declared.header.Header.{Header}
 use Rattle.command.specs.Headers.{header_of, in_range, data_of}
@@ -8,12 +8,6 @@ use Rattle.refusal.specs.declared.Refusal.{Refusal}
 use Rattle.refusal.specs.declared.Refusal.TheVariants.{Incomplete, SixteenWait}
 use Rattle.interpreter.specs.Machines.{Machine}
 use Rattle.interpreter.specs.Taking.{headed, take_of, untouched, unreadable, handed, settled, blocked, interpreted, whole}
-
--- the data, read behind the header
-pub data_read : (bs : List ℕ) (h : Header) (n : ℕ) (rest : List ℕ) → n ≡ h.length → rest ≡ drop 5 bs → take (n - 5 - 0) rest ≡ data_of h bs
-data_read bs h n rest en er =
-    let k : n - 5 - 0 ≡ h.length - 5 = omega (arith, en) in
-    ap (λ j. take j rest) k ∙ ap (take (h.length - 5)) er
 
 module _ (bs : List ℕ) (m : Machine) (area : List ℕ) (h : Header) (eh : header_of bs ≡ Some h) (le : 40 ≤ length area) where
   -- at a length that cannot be

@@ -3,6 +3,7 @@ ghost use Rattle.std.specs.Prelude.{◌≡◌, ℕ, List, Err};
 ghost use Rattle.interpreter.specs.Machines.{machine_of, open_page};
 ghost use Rattle.interpreter.specs.Outcomes.{told};
 ghost use Rattle.interpreter.specs.Taking.{taking, unreadable, handed, accepted, faulted, fault_of, jammed};
+ghost use Rattle.spool.specs.Kept.{Kept};
 
 use super::Interpreter;
 use crate::taken::Taken;
@@ -114,7 +115,8 @@ impl Interpreter {
 
     // Paper was lost: what waits and what is open is dropped, and the host is to be told instead of anything earlier.
     pub fn jam(&mut self)
-        ensures { machine_of self.new ≡ jammed (machine_of self.old) }
+        ensures machine { machine_of self.new ≡ jammed (machine_of self.old) }
+        ensures kept { Kept self.new.spool }
     {
         self.pending = Some(Fault {
             refusal: Refusal::PaperLost,

@@ -2,6 +2,7 @@
 ghost use Rattle.std.specs.Prelude.{◌≡◌};
 ghost use Rattle.interpreter.specs.Machines.{machine_of, fresh};
 ghost use Rattle.interpreter.specs.Taking.{taking, take_of, blocked};
+ghost use Rattle.spool.specs.Kept.{Kept};
 
 use super::Interpreter;
 use crate::taken::Taken;
@@ -11,7 +12,8 @@ use spool::{Copies, Spool};
 impl Interpreter {
     // Nothing is received and nothing is open, one copy is in force, and nothing is pending.
     pub fn new() -> Interpreter
-        ensures { machine_of result ≡ fresh }
+        ensures machine { machine_of result ≡ fresh }
+        ensures kept { Kept result.spool }
     {
         Interpreter {
             spool: Spool::new(),
@@ -34,6 +36,16 @@ impl Interpreter {
 
     // Carries out the first command in the bytes.
     pub fn take(&mut self, bytes: &[u8], reply: &mut [u8]) -> Taken
+        ensures took { taking (machine_of self.new) reply.new result ≡ take_of bytes.now (machine_of self.old) reply.old }
+        ensures kept { Kept self.new.spool }
+    {
+        let taken = self.take_first(bytes, reply);
+        self.spool.kept();
+        taken
+    }
+
+    // The take itself. What holds of every spool is looked up behind it, once for all the ways in which it ends.
+    fn take_first(&mut self, bytes: &[u8], reply: &mut [u8]) -> Taken
         ensures { taking (machine_of self.new) reply.new result ≡ take_of bytes.now (machine_of self.old) reply.old }
     {
         // No `?`: a take answers what it did, and cannot fail.

@@ -20,6 +20,7 @@ impl<E: Engine> Printer<E> {
     pub fn new(mut engine: E) -> Printer<E>
         ensures end { end_of E.Engine result ≡ made_end (E.paper engine).bin (E.paper engine).room }
         ensures law { Stands E.Engine (made (E.paper engine).bin) result }
+        ensures kept { Kept (end_of E.Engine result).machine.spool }
     {
         let _ = engine.purge();
         Printer {
@@ -38,6 +39,7 @@ impl<E: Engine> Printer<E> {
     ) -> Taken
         ensures took { took_as (end_of E.Engine self.new) (areas reply.new marks.new memory.new) result ≡ took bytes.now (end_of E.Engine self.old) (areas reply.old marks.old memory.old) }
         ensures law { Keeps E.Engine self.old self.new (after_take (take_seen bytes.now result reply.new)) }
+        ensures kept { Kept (end_of E.Engine self.new).machine.spool }
     {
         self.carry_out(bytes, reply)
     }
@@ -49,6 +51,7 @@ impl<E: Engine> Printer<E> {
         ensures answer { (run : Run) → Stands E.Engine run self.old → result ≡ turned_by E.K (flow_by run (E.paper self.old.engine).room) }
         ensures flow { (run : Run) → Stands E.Engine run self.old → flow_of (view_of (end_of E.Engine self.new)) ≡ turn E.K (flow_of (view_of (end_of E.Engine self.old))) }
         ensures law { Keeps E.Engine self.old self.new (after_turn result (E.paper self.new.engine).path) }
+        ensures kept { Kept (end_of E.Engine self.new).machine.spool }
     {
         self.turn_once()
     }
@@ -58,16 +61,19 @@ impl<E: Engine> Printer<E> {
         ensures end { end_of E.Engine self.new ≡ turned_times n E.K (end_of E.Engine self.old) }
         ensures law { (run : Run) → Stands E.Engine run self.old → ((after : Run) × (Turns n run after × Stands E.Engine after self.new)) }
         ensures delivers { (run : Run) → Stands E.Engine run self.old → n ≡ length (owed_by run) + 1 → length (owed_by run) ≤ (E.paper self.old.engine).room → (E.paper self.new.engine).bin ≡ (E.paper self.old.engine).bin ++ owed_by run }
+        ensures kept { Kept (end_of E.Engine self.new).machine.spool }
     {
         for _ in 0..n {
             let _ = self.turn();
         }
+        self.interpreter.spool.kept();
     }
 
     // Paper was lost: the path, what waits and what is open is dropped, and the host is to be told.
     pub fn jam(&mut self)
         ensures end { end_of E.Engine self.new ≡ jammed (end_of E.Engine self.old) }
         ensures law { Keeps E.Engine self.old self.new after_jam }
+        ensures kept { Kept (end_of E.Engine self.new).machine.spool }
     {
         self.lose_paper();
     }
@@ -87,7 +93,9 @@ impl<E: Engine> Printer<E> {
         ensures owed { result ≡ owed (flow_of (view_of (end_of E.Engine self.now))) }
         ensures most { result ≤ 4088 }
         ensures law { Keeps E.Engine self.now self.now (after_owed result) }
+        ensures kept { Kept (end_of E.Engine self.now).machine.spool }
     {
+        self.interpreter.spool.kept();
         let (path, waiting) = self.count_owed();
         path + waiting
     }

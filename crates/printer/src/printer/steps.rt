@@ -4,7 +4,7 @@ ghost use Rattle.interpreter.specs.Machines.{machine_of};
 ghost use Rattle.interpreter.specs.Taking.{taking, take_of};
 ghost use Rattle.printer.specs.Ends.{jammed, turned, turn_told};
 ghost use Rattle.printer.specs.Printers.{end_of};
-ghost use Rattle.spool.specs.Kept.{Whole};
+ghost use Rattle.spool.specs.Kept.{Kept, Whole};
 ghost use Rattle.spool.specs.Spooled.{unfed_in};
 
 use super::Printer;
@@ -19,6 +19,7 @@ impl<E: Engine> Printer<E> {
         ensures engine { self.new.engine ≡ self.old.engine }
         ensures took { taking (machine_of self.new.interpreter) reply.new result ≡ take_of bytes.now (machine_of self.old.interpreter) reply.old }
         ensures whole { Whole self.old.interpreter.spool }
+        ensures kept { Kept self.new.interpreter.spool }
     {
         self.interpreter.spool.kept();
         self.interpreter.take(bytes, reply)
@@ -29,6 +30,7 @@ impl<E: Engine> Printer<E> {
         ensures told { result ≡ turn_told E.K (end_of E.Engine self.old) }
         ensures end { end_of E.Engine self.new ≡ turned E.K (end_of E.Engine self.old) }
         ensures whole { Whole self.old.interpreter.spool }
+        ensures kept { Kept self.new.interpreter.spool }
     {
         self.interpreter.spool.kept();
         let advanced = advance_once(&mut self.engine, &mut self.interpreter.spool);
@@ -38,7 +40,8 @@ impl<E: Engine> Printer<E> {
 
     // The path, what waits and what is open is lost.
     pub(super) fn lose_paper(&mut self)
-        ensures { end_of E.Engine self.new ≡ jammed (end_of E.Engine self.old) }
+        ensures end { end_of E.Engine self.new ≡ jammed (end_of E.Engine self.old) }
+        ensures kept { Kept self.new.interpreter.spool }
     {
         let _ = self.engine.purge();
         self.interpreter.jam();

@@ -26,7 +26,8 @@ impl Spool {
     }
 
     pub fn new() -> Spool
-        ensures { result ≡ empty }
+        ensures spool { result ≡ empty }
+        ensures kept { Kept result }
     {
         Spool::at(Tally::none())
     }
@@ -77,7 +78,8 @@ impl Spool {
 
     // The next copy was fed.
     pub fn commit(&mut self)
-        ensures { self.new ≡ commit self.old }
+        ensures spool { self.new ≡ commit self.old }
+        ensures kept { Kept self.new }
     {
         let Some(first) = self.first_to_feed() else {
             return;
@@ -98,7 +100,8 @@ impl Spool {
 
     // The path's oldest sheet was stacked.
     pub fn stack(&mut self)
-        ensures { self.new ≡ stack self.old }
+        ensures spool { self.new ≡ stack self.old }
+        ensures kept { Kept self.new }
     {
         let Some(sheet) = self.path.first() else {
             return;
@@ -112,7 +115,8 @@ impl Spool {
 
     // A page with so many copies waits, or is refused.
     pub fn receive(&mut self, page: u32, copies: Copies) -> Result<(), NotReceived>
-        ensures { Receives page copies self.old self.new result }
+        ensures spool { Receives page copies self.old self.new result }
+        ensures kept { Kept self.new }
     {
         if self.is_full() {
             return Err(NotReceived::SixteenWait);
@@ -131,7 +135,8 @@ impl Spool {
 
     // The waiting pages are dropped; the path goes on.
     pub fn discard(&mut self)
-        ensures { self.new ≡ discard self.old }
+        ensures spool { self.new ≡ discard self.old }
+        ensures kept { Kept self.new }
     {
         self.pages.clear();
         self.received = self.committed.pages;
@@ -139,7 +144,8 @@ impl Spool {
 
     // The waiting pages and the sheets in the path are dropped.
     pub fn jam(&mut self)
-        ensures { self.new ≡ jam self.old }
+        ensures spool { self.new ≡ jam self.old }
+        ensures kept { Kept self.new }
     {
         *self = Spool::at(self.stacked);
     }

@@ -31,4 +31,5 @@ returns g c =
       owed = is;
       most = omega (arith, q.path, q.few);
       law = λ run s. owed_law meaning m.K run (station_of (end_of m p)) s _ is;
+      kept = c.kept.ensures;
     }

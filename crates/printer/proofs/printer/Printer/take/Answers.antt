@@ -25,4 +25,5 @@ returns g c =
     record {
       took = ap (λ x. took_as (printer_end (m.paper x) after) (areas area c.args.marks.now c.args.memory.now) c.carry_out.result) same ∙ ap (λ t. took_by t (end_of m p) given) e;
       law = λ run s. subst (λ x. Stands meaning m.K (after_still meaning run (took (take_seen bs c.carry_out.result area))) (station_of (printer_end (m.paper x) after))) (sym same) (take_law meaning m.K (m.sound p.engine).some run (station_of (end_of m p)) c.carry_out.ensures.whole s (take_seen bs c.carry_out.result area) (receiver_of after) seen.effect q.interpreter.some seen.counts);
+      kept = c.carry_out.ensures.kept;
     }

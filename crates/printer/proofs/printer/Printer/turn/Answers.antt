@@ -28,4 +28,5 @@ returns g c =
       answer = λ run s. turned_so meaning m.K sound.few run w t.whole s _ advanced fed;
       flow = λ run s. ap flow_of now ∙ flow_turn m.K sound.few v s.holds.known t.whole.unfed;
       law = λ run s. turn_law meaning m.K sound.some sound.few run w t.whole s (station_of (end_of m q)) now _ advanced fed (ap (λ (e : PrinterEnd). open_page e.machine.state) t.end) (ap (λ (e : PrinterEnd). e.machine.copies) t.end);
+      kept = t.kept;
     }

@@ -49,4 +49,5 @@ returns g c =
           let o = owed_so meaning m.K run (station_of (end_of m p)) s in
           let k : n ≡ owed (flow_of (view_of (end_of m p))) + 1 = omega arith in
           ap (λ (f : Flow). f.paper.bin) (ap (λ k. turns k m.K (flow_of (view_of (end_of m q)))) z ∙ h.1.1.1) ∙ ap (λ k. (turns k m.K (flow_of (view_of (end_of m p)))).paper.bin) k ∙ s.holds.delivers (omega arith);
+      kept = c.kept.ensures;
     }

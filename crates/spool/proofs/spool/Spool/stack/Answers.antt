@@ -8,3 +8,6 @@ returns-in_default-plus c = absurd (stack_counts _ _ c.self.invariant c.in-Some.
 
 pub invariant_of-self : goal.invariant_of-self
 invariant_of-self c = kept_stack _ _ c.self.invariant (grind (arith, common_steps))
+
+pub returns-clause-kept : goal.returns-clause-kept
+returns-clause-kept c = kept_stack _ _ c.self.invariant (grind (arith, common_steps))

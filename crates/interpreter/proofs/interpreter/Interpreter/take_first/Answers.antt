@@ -1,10 +1,11 @@
 use Rattle.std.proofs.Common.{◌≡◌, ◌-◌, ◌≤◌, length, drop, Ok, Err, sym, ap, ◌∙◌, arith, rules}
 use Rattle.std.proofs.lemmas.List.{length-drop}
+use Rattle.std.proofs.lemmas.Grind.{common_steps}
 use Rattle.interpreter.specs.Machines.{Machine, machine_of}
 use Rattle.interpreter.specs.Taking.{taking, faulted, fault_of}
-use Rattle.interpreter.proofs.Refusing.{take_unreadable, take_incomplete, take_pending, take_blocked, take_settled, data_read}
+use Rattle.interpreter.proofs.Refusing.{take_unreadable, take_incomplete, take_pending, take_blocked, take_settled}
 use Rattle.interpreter.proofs.Fronts.{behind, joined, handed_front, accepted_front, faulted_front}
-use Rattle.interpreter.proofs.interpreter.Interpreter.take.Goals as goal
+use Rattle.interpreter.proofs.interpreter.Interpreter.take_first.Goals as goal
 
 pub returns-then-not-in_range : goal.returns-then-not-in_range
 returns-then-not-in_range c =
@@ -56,8 +57,7 @@ returns-in-Ok c =
     let area = c.args.reply.now in
     let h = c.in-Some.header in
     let long : h.length ≤ length c.args.bytes.now = omega (arith, c.if-bytes-length.false, c.from-length.ensures) in
-    let known = data_read c.args.bytes.now h _ c.in-Some.rest.now c.from-length.ensures c.in-Some.ensures.1 in
-    let is = take_settled c.args.bytes.now m area h c.in-Some.ensures.0 first.enough (sym c.if-not-in_range.ensures) long c.in_default-pending.is (sym c.if-is_blocked.ensures) _ known (Ok n) c.in-Ok.ensures in
+    let is = take_settled c.args.bytes.now m area h c.in-Some.ensures.0 first.enough (sym c.if-not-in_range.ensures) long c.in_default-pending.is (sym c.if-is_blocked.ensures) _ (grind (arith, common_steps)) (Ok n) c.in-Ok.ensures in
     ap (behind (drop 40 area)) c.accept.ensures ∙ accepted_front area c.in-Some-first_chunk_mut.front.now first h n ∙ sym is
 
 pub returns-in-Err : goal.returns-in-Err
@@ -69,7 +69,6 @@ returns-in-Err c =
     let h = c.in-Some.header in
     let r = c.in-Err.refusal in
     let long : h.length ≤ length c.args.bytes.now = omega (arith, c.if-bytes-length.false, c.from-length.ensures) in
-    let known = data_read c.args.bytes.now h _ c.in-Some.rest.now c.from-length.ensures c.in-Some.ensures.1 in
-    let is = take_settled c.args.bytes.now m area h c.in-Some.ensures.0 first.enough (sym c.if-not-in_range.ensures) long c.in_default-pending.is (sym c.if-is_blocked.ensures) _ known (Err r) c.in-Err.ensures.0 in
+    let is = take_settled c.args.bytes.now m area h c.in-Some.ensures.0 first.enough (sym c.if-not-in_range.ensures) long c.in_default-pending.is (sym c.if-is_blocked.ensures) _ (grind (arith, common_steps)) (Err r) c.in-Err.ensures.0 in
     let same = ap (λ (n : Machine). faulted (fault_of r h n.state) h n front) c.in-Err.ensures.1 in
     ap (behind (drop 40 area)) (c.refuse.ensures ∙ same) ∙ faulted_front area front first h m (fault_of r h m.state) ∙ sym is
