@@ -49,5 +49,6 @@ module _ {Z : Type 0} (n : ℕ) (v : Vec ℕ Z) (s : Sheet) (lt : n < vec_len v 
       }
 
   -- the bytes xs were written over by ys at the place of the next record, and ys is the record of s
-  pub files : (k : ℕ) (xs ys packed : List ℕ) → k ≡ 8 → xs ≡ vec_items v → ys ≡ packed → packed ≡ bytes_of s → sheet_of packed ≡ s → Behind n v (with_items v (put_mid (8 * n) k xs ys)) s
-  files k xs ys packed e all copied is back = behind _ (ap sheet_of (sym is) ∙ back) (written_over v (8 * n) k xs ys (bytes_of s) e all (copied ∙ is))
+  pub files : (at k : ℕ) (xs ys packed : List ℕ) → at ≡ 8 * n → k ≡ 8 → xs ≡ vec_items v → ys ≡ packed → packed ≡ bytes_of s → sheet_of packed ≡ s → Behind n v (with_items v (put_mid at k xs ys)) s
+  files at k xs ys packed place e all copied is back =
+      behind _ (ap sheet_of (sym is) ∙ back) (ap (λ a. with_items v (put_mid a k xs ys)) place ∙ written_over v (8 * n) k xs ys (bytes_of s) e all (copied ∙ is))

@@ -1,4 +1,4 @@
-use Rattle.std.proofs.Common.{◌≡◌, ◌+◌, ◌-◌, ◌*◌, refl, arith, rules}
+use Rattle.std.proofs.Common.{◌≡◌, ℕ, ◌*◌, refl, arith, rules}
 use Rattle.engines.proofs.Filing.{files}
 use Rattle.engines.proofs.file.RecordsBin.stack.Goals as goal
 
@@ -7,18 +7,18 @@ invariant_of-self c =
     let b = c.args.self.now in
     let copied : c.copy_from_slice.new.self ≡ c.record.result = search rules in
     let packed = c.record.ensures in
-    let filed = files b.stacked b.bytes c.args.sheet (omega arith) b.told (8 * b.stacked + 8 - 8 * b.stacked) _ _ _ (omega arith) c.as_mut_slice.ensures.value copied packed.bytes packed.back in
-    record { within = filed.within; told = filed.told }
+    let filed = λ (at k : ℕ) (place : at ≡ 8 * b.stacked) (size : k ≡ 8). files b.stacked b.bytes c.args.sheet (omega arith) b.told at k _ _ _ place size c.as_mut_slice.ensures.value copied packed.bytes packed.back in
+    record { within = omega arith; told = (filed _ _ (omega arith) (omega arith)).told }
 
 pub returns : goal.returns
 returns c =
     let b = c.args.self.now in
     let copied : c.copy_from_slice.new.self ≡ c.record.result = search rules in
     let packed = c.record.ensures in
-    let filed = files b.stacked b.bytes c.args.sheet (omega arith) b.told (8 * b.stacked + 8 - 8 * b.stacked) _ _ _ (omega arith) c.as_mut_slice.ensures.value copied packed.bytes packed.back in
+    let filed = λ (at k : ℕ) (place : at ≡ 8 * b.stacked) (size : k ≡ 8). files b.stacked b.bytes c.args.sheet (omega arith) b.told at k _ _ _ place size c.as_mut_slice.ensures.value copied packed.bytes packed.back in
     record {
       taken = search rules;
-      sheets = filed.sheets;
+      sheets = (filed _ _ (omega arith) (omega arith)).sheets;
       room = omega arith;
-      gives = record { bytes = filed.bytes; stacked = refl };
+      gives = record { bytes = (filed _ _ (omega arith) (omega arith)).bytes; stacked = refl };
     }
