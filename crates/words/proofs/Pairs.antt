@@ -45,12 +45,6 @@ paired (x ∷ y ∷ bs) had had' b end long byte more inv =
     let whole : take (length (x ∷ y ∷ bs) - 2) (drop 2 (x ∷ y ∷ bs)) ≡ bs = take_all (length (x ∷ y ∷ bs) - 2) bs (omega arith) in
     rw (whole, more) (joined had b (hex_of bs) ∙ ap (λ o. hex_after had (before o (hex_of bs))) (sym byte) ∙ ap (hex_after had) (sym (split x y bs)) ∙ inv)
 
--- a pair that writes no byte
-pub broken : (w had : List ℕ) (end : Option (List ℕ)) → 2 ≤ length w → byte_of (get_or w 0 0) (get_or w 1 0) ≡ None → hex_after had (hex_of w) ≡ end → None ≡ end
-broken [] had end long byte inv = absurd (omega (arith, long))
-broken (x ∷ []) had end long byte inv = absurd (omega (arith, long))
-broken (x ∷ y ∷ bs) had end long byte inv = ap (λ o. hex_after had (before o (hex_of bs))) (sym byte) ∙ ap (hex_after had) (sym (split x y bs)) ∙ inv
-
 pub none_yet : (had : List ℕ) (o : Option (List ℕ)) → had ≡ [] → hex_after had o ≡ o
 none_yet had (Some bs) e = rw e refl
 none_yet had None e = refl

@@ -7,4 +7,4 @@ loop-rest-preserved c =
     paired c.loop-rest.rest.now _ _ _ _ (search rules) (sym c.byte.ensures ∙ c.in-Some.is) c.in_ok-push.ensures.items c.loop-rest.invariant
 
 pub loop-rest-init : goal.loop-rest-init
-loop-rest-init c = none_yet _ _ c.clear.ensures.items
+loop-rest-init c = none_yet _ _ (search rules)
