@@ -102,14 +102,14 @@ impl<R: Read> Player<R> {
 // Plays calls to one printer end until the script ends it, and hands its engine back.
 pub(crate) fn session<E: Engine + Drop, R: Read>(
     player: &mut Player<R>,
+    bytes: &mut Vec<u8>,
     engine: E,
 ) -> io::Result<(E, Next)> {
     let mut session = Session::new(player.heap, engine)?;
-    let mut bytes = Vec::new(player.heap);
     let mut next = Next::End;
     // A script has no known end, so that a loop while there is a call has no measure.
     for _ in 0..u64::MAX {
-        match player.next_call(&mut bytes)? {
+        match player.next_call(bytes)? {
             None => break,
             Some(Call::Engine { kind, room }) => {
                 next = Next::Engine(kind, room);
@@ -126,11 +126,13 @@ pub(crate) fn session<E: Engine + Drop, R: Read>(
 }
 
 // With no printer end only an engine line can be played.
-pub(crate) fn skip_to_engine<R: Read>(player: &mut Player<R>) -> io::Result<Next> {
-    let mut bytes = Vec::new(player.heap);
+pub(crate) fn skip_to_engine<R: Read>(
+    player: &mut Player<R>,
+    bytes: &mut Vec<u8>,
+) -> io::Result<Next> {
     // No known end, as above.
     for _ in 0..u64::MAX {
-        match player.next_call(&mut bytes)? {
+        match player.next_call(bytes)? {
             None => break,
             Some(Call::Engine { kind, room }) => return Ok(Next::Engine(kind, room)),
             Some(Call::Skip) => {}
