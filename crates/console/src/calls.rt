@@ -87,13 +87,14 @@ impl<E: Engine + Drop> Session<E> {
     pub(crate) fn perform<R: Read>(
         &mut self,
         player: &mut Player<R>,
-        call: Call<Vec<u8>>,
+        call: Call<&[u8]>,
     ) -> io::Result<()> {
         match call {
-            Call::Take(bytes) => self.take(player, &bytes)?,
+            Call::Take(bytes) => self.take(player, bytes)?,
             Call::Turn(times) => {
                 for _ in 0..times {
                     self.turn(player)?;
+                    player.flush_much()?;
                 }
             }
             Call::Jam => {
@@ -114,7 +115,7 @@ impl<E: Engine + Drop> Session<E> {
                 player.say(&line)?;
             }
             Call::Poke { at, bytes } => {
-                self.buffers.poke(at, &bytes);
+                self.buffers.poke(at, bytes);
                 player.say_number("poke ", u64::from(at))?;
             }
             Call::ReplyArea(size) => {

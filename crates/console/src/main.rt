@@ -16,24 +16,39 @@ use std::rt::{Env, Files};
 use std::{env, io};
 
 // A session over an engine of so much room.
-fn on<M: Machine, R: Read>(player: &mut Player<R>, room: u32) -> io::Result<Next> {
+fn on<M: Machine, R: Read>(
+    player: &mut Player<R>,
+    bytes: &mut Vec<u8>,
+    room: u32,
+) -> io::Result<Next> {
     player.say_number(M::NAME, u64::from(room))?;
     // A cast, since the library has no From between `u32` and `usize`.
     let machine = M::with_room(player.heap, room as usize)?;
-    let (machine, next) = session(player, machine)?;
+    let (machine, next) = session(player, bytes, machine)?;
     machine.tell(player)?;
     Ok(next)
 }
 
 // Session after session, until the script ends.
 fn play<R: Read + Drop>(mut player: Player<R>) -> io::Result<()> {
+    // The bytes of a call, beside the player, since the call that is made borrows them. One list for all sessions, so that it
+    // grows once.
+    let mut bytes = Vec::new(player.heap);
     let mut next = Next::Nothing;
     // A script has no known end, so that a loop until it ends has no measure.
     for _ in 0..u64::MAX {
         next = match next {
-            Next::Engine(EngineKind::Track, room) => on::<TrackEngine, R>(&mut player, room)?,
-            Next::Engine(EngineKind::File, room) => on::<FileEngine, R>(&mut player, room)?,
-            Next::Nothing => skip_to_engine(&mut player)?,
+            Next::Engine(EngineKind::Track, room) => on::<TrackEngine, R>(
+                &mut player,
+                &mut bytes,
+                room,
+            )?,
+            Next::Engine(EngineKind::File, room) => on::<FileEngine, R>(
+                &mut player,
+                &mut bytes,
+                room,
+            )?,
+            Next::Nothing => skip_to_engine(&mut player, &mut bytes)?,
             Next::End => break,
         };
     }

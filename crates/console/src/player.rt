@@ -4,7 +4,7 @@ use engine::Engine;
 use script::{Call, EngineKind, parse};
 use std::alloc::Global;
 use std::io;
-use std::io::{BufRead, BufReader, BufWriter, Read, Stdout, Write};
+use std::io::{BufRead, BufReader, Read, Stdout, Write};
 
 #[derive(Drop)]
 pub struct Player<R: Read> {
@@ -12,8 +12,10 @@ pub struct Player<R: Read> {
     line: Vec<u8>,
     // The number of the line, from 1.
     number: u64,
-    // The answers; they wait until they are many, or a line has to be waited for.
-    out: BufWriter<Stdout>,
+    stdout: Stdout,
+    // Answers that are not written yet. No buffered writer: it would write a part of an answer when it is full, and what
+    // waits when the program ends by an error.
+    out: Vec<u8>,
     pub heap: Global,
 }
 
@@ -31,7 +33,8 @@ impl<R: Read + Drop> Player<R> {
             input: BufReader::new(rt.alloc(), input)?,
             line: Vec::new(rt.alloc()),
             number: 0,
-            out: BufWriter::with_capacity(rt.alloc(), 65536, rt.stdout())?,
+            stdout: rt.stdout(),
+            out: Vec::new(rt.alloc()),
             heap: rt.alloc(),
         })
     }
@@ -39,34 +42,46 @@ impl<R: Read + Drop> Player<R> {
 
 impl<R: Read> Player<R> {
     pub(crate) fn flush(&mut self) -> io::Result<()> {
-        self.out.flush()
+        self.stdout.write_all(&self.out)?;
+        self.out.clear();
+        Ok(())
     }
 
-    // The next call; None behind the last. A malformed line is told and passed.
-    fn next_call(&mut self) -> io::Result<Option<Call<Vec<u8>>>> {
-        // The library's lines would be read with no look at what waits, so that no answer could be written first;
-        // nor has a loop until the end a measure.
-        for _ in 0..u64::MAX {
-            if self.input.buffer().is_empty() {
-                self.flush()?;
-            }
-            self.line.clear();
-            if self.input.read_until(b'\n', &mut self.line)? == 0 {
-                break;
-            }
-            self.number = self.number.wrapping_add(1);
-            let line = self.line.as_slice();
-            match parse(self.heap, line.strip_suffix(b"\n").unwrap_or(line))? {
-                Some(call) => return Ok(Some(call)),
-                None => self.wrong()?,
+    // Writes the answers where many wait.
+    pub(crate) fn flush_much(&mut self) -> io::Result<()> {
+        if self.out.len() > 65536 {
+            self.flush()?;
+        }
+        Ok(())
+    }
+
+    // The next call, whose bytes are read into the lent list; None behind the last. A malformed line is told here, and is
+    // then one to skip.
+    fn next_call<'b>(&mut self, bytes: &'b mut Vec<u8>) -> io::Result<Option<Call<&'b [u8]>>> {
+        // The library's lines would be read with no look at what waits, so that no answer could be written first.
+        if self.input.buffer().is_empty() {
+            self.flush()?;
+        }
+        self.flush_much()?;
+        self.line.clear();
+        if self.input.read_until(b'\n', &mut self.line)? == 0 {
+            return Ok(None);
+        }
+        self.number = self.number.wrapping_add(1);
+        let line = self.line.as_slice();
+        match parse(line.strip_suffix(b"\n").unwrap_or(line), bytes)? {
+            Some(call) => Ok(Some(call)),
+            None => {
+                self.wrong()?;
+                Ok(Some(Call::Skip))
             }
         }
-        Ok(None)
     }
 
     // Adds a line to the answers.
     pub(crate) fn say(&mut self, line: &str) -> io::Result<()> {
-        self.out.write_all(line.as_bytes())
+        self.out.extend_from_slice(line.as_bytes())?;
+        Ok(())
     }
 
     pub(crate) fn say_number(&mut self, name: &str, n: u64) -> io::Result<()> {
@@ -87,13 +102,14 @@ impl<R: Read> Player<R> {
 // Plays calls to one printer end until the script ends it, and hands its engine back.
 pub(crate) fn session<E: Engine + Drop, R: Read>(
     player: &mut Player<R>,
+    bytes: &mut Vec<u8>,
     engine: E,
 ) -> io::Result<(E, Next)> {
     let mut session = Session::new(player.heap, engine)?;
     let mut next = Next::End;
     // A script has no known end, so that a loop while there is a call has no measure.
     for _ in 0..u64::MAX {
-        match player.next_call()? {
+        match player.next_call(bytes)? {
             None => break,
             Some(Call::Engine { kind, room }) => {
                 next = Next::Engine(kind, room);
@@ -110,10 +126,13 @@ pub(crate) fn session<E: Engine + Drop, R: Read>(
 }
 
 // With no printer end only an engine line can be played.
-pub(crate) fn skip_to_engine<R: Read>(player: &mut Player<R>) -> io::Result<Next> {
+pub(crate) fn skip_to_engine<R: Read>(
+    player: &mut Player<R>,
+    bytes: &mut Vec<u8>,
+) -> io::Result<Next> {
     // No known end, as above.
     for _ in 0..u64::MAX {
-        match player.next_call()? {
+        match player.next_call(bytes)? {
             None => break,
             Some(Call::Engine { kind, room }) => return Ok(Next::Engine(kind, room)),
             Some(Call::Skip) => {}

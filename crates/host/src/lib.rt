@@ -10,4 +10,4 @@ pub use commands::{
     load_copy_control, no_operation,
 };
 pub use job::{Page, next_page};
-pub use reply::Reply;
+pub use reply::{Counted, Reply};

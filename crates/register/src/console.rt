@@ -11,7 +11,8 @@ pub(crate) fn heading(rt: &HostRuntime, text: &str) -> io::Result<()> {
 pub(crate) fn hex(heap: Global, bytes: &[u8]) -> Result<String, AllocError> {
     let mut text = String::new(heap);
     for b in bytes {
-        write!(text, "{b:02X} ")?;
+        // No `?`: where memory runs out a byte is missing from what is printed, and that is not to end the program.
+        let _ = write!(text, "{b:02X} ");
     }
     Ok(text)
 }

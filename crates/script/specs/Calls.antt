@@ -9,8 +9,8 @@
 --   followed     what a first word says with what follows it
 --   spoken       what a first word says, whether more follows it or not
 --   said_of      what a line says: None where it is malformed
-use Rattle.std.specs.Prelude.{ℕ, ◌-◌, cond, List, [], length, Some, None, codes, Option, nat_le, vec_items, Vec}
-use Rattle.std.specs.Global.{Global}
+use Rattle.std.specs.Prelude.{ℕ, ◌-◌, cond, List, [], length, Some, None, codes, Option, nat_le}
+use Rattle.std.specs.Borrow.{Bor}
 use Rattle.std.specs.Option.{option_map}
 use Rattle.std.specs.Str.{bytes_eq}
 use Rattle.words.specs.Numerals.{and_then, only, number_of, up_to, bytes_of}
@@ -51,8 +51,8 @@ with_bytes f (Poke at bytes) = Poke at (f bytes)
 with_bytes f (ReplyArea size) = ReplyArea size
 with_bytes f End = End
 
-abbrev pub seen : Option (Call (Vec ℕ Global)) → Option (Call (List ℕ))
-seen call = option_map (with_bytes vec_items) call
+abbrev pub seen : Option (Call (Bor (List ℕ))) → Option (Call (List ℕ))
+seen call = option_map (with_bytes (λ bytes. bytes.now)) call
 
 abbrev pub bare_of : List ℕ → Option (Call (List ℕ))
 bare_of w =

@@ -3,7 +3,7 @@ ghost use Rattle.std.specs.Prelude.{◌≡◌, IfOk};
 ghost use Rattle.script.specs.Calls.{seen, bare_of, engine_of, areas_of, memory_of, numbered, poke_of, followed, said_of};
 
 use crate::call::{Areas, Call, EngineKind};
-use std::alloc::{AllocError, Global};
+use std::alloc::AllocError;
 use words::{first_word, hex, number, number_up_to, same, says_nothing};
 
 // The room of an engine: sheet records of a track, bytes of a file.
@@ -19,12 +19,12 @@ const MARKS: u32 = 1000;
 const MEMORY: u32 = 65536;
 
 // The call of a line of one word.
-fn bare(heap: Global, word: &[u8]) -> Option<Call<Vec<u8>>>
+fn bare<'b>(word: &[u8]) -> Option<Call<&'b [u8]>>
     ensures { seen result ≡ bare_of word.now }
 {
     // A match on the word branches at each of its letters: tried, and the proof of its last arm did not close.
     if same(word, b"take") {
-        Some(Call::Take(Vec::new(heap)))
+        Some(Call::Take(&[]))
     } else if same(word, b"turn") {
         Some(Call::Turn(1))
     } else if same(word, b"jam") {
@@ -42,7 +42,7 @@ fn bare(heap: Global, word: &[u8]) -> Option<Call<Vec<u8>>>
     }
 }
 
-fn engine(rest: &[u8]) -> Option<Call<Vec<u8>>>
+fn engine<'b>(rest: &[u8]) -> Option<Call<&'b [u8]>>
     ensures { seen result ≡ engine_of rest.now }
 {
     let (kind, room) = first_word(rest);
@@ -60,7 +60,7 @@ fn engine(rest: &[u8]) -> Option<Call<Vec<u8>>>
     }
 }
 
-fn areas(rest: &[u8]) -> Option<Call<Vec<u8>>>
+fn areas<'b>(rest: &[u8]) -> Option<Call<&'b [u8]>>
     ensures { seen result ≡ areas_of rest.now }
 {
     let (reply, rest) = first_word(rest);
@@ -73,7 +73,7 @@ fn areas(rest: &[u8]) -> Option<Call<Vec<u8>>>
     }))
 }
 
-fn memory(rest: &[u8]) -> Option<Call<Vec<u8>>>
+fn memory<'b>(rest: &[u8]) -> Option<Call<&'b [u8]>>
     ensures { seen result ≡ memory_of rest.now }
 {
     let (at, n) = first_word(rest);
@@ -84,7 +84,7 @@ fn memory(rest: &[u8]) -> Option<Call<Vec<u8>>>
 }
 
 // The call of a first word that numbers follow.
-fn with_numbers(word: &[u8], rest: &[u8]) -> Option<Call<Vec<u8>>>
+fn with_numbers<'b>(word: &[u8], rest: &[u8]) -> Option<Call<&'b [u8]>>
     ensures { seen result ≡ numbered word.now rest.now }
 {
     // No match on the word, as above.
@@ -103,7 +103,7 @@ fn with_numbers(word: &[u8], rest: &[u8]) -> Option<Call<Vec<u8>>>
     }
 }
 
-fn poke(heap: Global, rest: &[u8]) -> Result<Option<Call<Vec<u8>>>, AllocError>
+fn poke<'b>(rest: &[u8], out: &'b mut Vec<u8>) -> Result<Option<Call<&'b [u8]>>, AllocError>
     ensures { IfOk result (λ call. seen call ≡ poke_of rest.now) }
 {
     // No `?`: a malformed line is an answer here and no error.
@@ -114,35 +114,40 @@ fn poke(heap: Global, rest: &[u8]) -> Result<Option<Call<Vec<u8>>>, AllocError>
         return Ok(None);
     };
     // A cast, since the library has no From between `u32` and `usize`.
-    match hex(heap, word)? {
+    match hex(word, out)? {
         Some(bytes) if bytes.len() <= (MEMORY - at) as usize => Ok(Some(Call::Poke { at, bytes })),
         _ => Ok(None),
     }
 }
 
 // The call of a first word that more follows.
-fn with_words(heap: Global, word: &[u8], rest: &[u8]) -> Result<Option<Call<Vec<u8>>>, AllocError>
+fn with_words<'b>(
+    word: &[u8],
+    rest: &[u8],
+    out: &'b mut Vec<u8>,
+) -> Result<Option<Call<&'b [u8]>>, AllocError>
     ensures { IfOk result (λ call. seen call ≡ followed word.now rest.now) }
 {
     // No match on the word, as above.
     if same(word, b"take") {
-        Ok(hex(heap, rest)?.map(|bytes| Call::Take(bytes)))
+        Ok(hex(rest, out)?.map(|bytes| Call::Take(bytes)))
     } else if same(word, b"poke") {
-        poke(heap, rest)
+        poke(rest, out)
     } else {
         Ok(with_numbers(word, rest))
     }
 }
 
-// The call of a line, which has lost its newline: None where it is malformed.
-pub fn parse(heap: Global, line: &[u8]) -> Result<Option<Call<Vec<u8>>>, AllocError>
+// The call of a line, which has lost its newline: None where it is malformed. The bytes that it carries are read into the
+// list that is lent.
+pub fn parse<'b>(line: &[u8], out: &'b mut Vec<u8>) -> Result<Option<Call<&'b [u8]>>, AllocError>
     ensures { IfOk result (λ call. seen call ≡ said_of line.now) }
 {
     if says_nothing(line) {
         return Ok(Some(Call::Skip));
     }
     match first_word(line) {
-        (word, None) => Ok(bare(heap, word)),
-        (word, Some(rest)) => with_words(heap, word, rest),
+        (word, None) => Ok(bare(word)),
+        (word, Some(rest)) => with_words(word, rest, out),
     }
 }

@@ -1,61 +1,50 @@
--- The bytes of pairs of hexadecimal digits, and what hex decodes.
-use Rattle.std.proofs.Common.{◌≡◌, ℕ, ◌+◌, ◌*◌, ◌%◌, List, [], ◌∷◌, length, Some, None, Option, Result, Ok, Err, refl, sym, ap, ◌∙◌, ◌/◌, ◌==◌, false, inl, inr, arith}
-use Rattle.std.specs.Result.{result_ok, MatchResult, IsOk, IsErr}
+-- Pairs of hexadecimal digits, one after the other.
+use Rattle.std.proofs.Common.{◌≡◌, ℕ, ◌+◌, ◌-◌, ◌*◌, ◌<◌, ◌≤◌, SomeIff, List, [], ◌∷◌, ◌++◌, length, get_or, take, drop, Some, None, Option, sym, refl, ap, ◌∙◌, append_assoc, arith}
+use Rattle.std.specs.Char.{digit_value}
+use Rattle.std.proofs.lemmas.List.{take_all}
 use Rattle.std.proofs.lemmas.Bool.Decides.{nat_tests}
-use Rattle.hex.specs.declared.error.FromHexError.{FromHexError}
-use Rattle.hex.specs.Hex.{hex_digit_value, digit_or_error, decode_pairs, decode_of, decode_sized, ◌>>=◌}
-use Rattle.hex.proofs.HexLemmas.{decode_of-even, decode_of-odd}
-use Rattle.std.proofs.lemmas.Bool.{cases_lt}
-use Rattle.words.specs.Numerals.{and_then, nibble_of, hex_of, bytes_of}
+use Rattle.words.specs.Numerals.{and_then, nibble_of, byte_of, hex_of}
 
-same_digit : (b : ℕ) → hex_digit_value b ≡ nibble_of b
-same_digit b = grind (arith, nat_tests)
+is_digit : (b : ℕ) → digit_value b < 16 → Some (digit_value b) ≡ nibble_of b
+is_digit b h = grind (arith, nat_tests, h)
 
--- the bytes of two digits, and of those that follow
-abbrev pair : Option ℕ → Option ℕ → Option (List ℕ) → Option (List ℕ)
-pair high low rest = and_then high (λ h. and_then low (λ l. and_then rest (λ bs. Some ((h * 16 + l) ∷ bs))))
+no_digit : (b : ℕ) → ¬ (digit_value b < 16) → None ≡ nibble_of b
+no_digit b h = grind (arith, nat_tests, h)
 
-paired : (a b i : ℕ) (high low : Option ℕ) (rest : Result (List ℕ) FromHexError)
-    → result_ok ((digit_or_error a i high >>= (λ h. digit_or_error b (i + 1) low >>= (λ l. Ok (h * 16 + l)))) >>= (λ byte. rest >>= (λ bytes. Ok (byte ∷ bytes)))) ≡ pair high low (result_ok rest)
-paired a b i (Some h) (Some l) (Ok bs) = refl
-paired a b i (Some h) (Some l) (Err e) = refl
-paired a b i (Some h) None rest = refl
-paired a b i None low rest = refl
+-- what the library says of a digit
+pub digit : (b : ℕ) (d : Option ℕ) → SomeIff d (digit_value b < 16) (digit_value b) → d ≡ nibble_of b
+digit b (Some d) h = ap Some h.1 ∙ is_digit b h.0
+digit b None h = no_digit b h
 
-pairs : (i : ℕ) (w : List ℕ) → result_ok (decode_pairs i w) ≡ hex_of w
-unfolding decode_pairs
-pairs i [] = refl
-pairs i (a ∷ []) = refl
-pairs i (a ∷ b ∷ bs) = paired a b i (hex_digit_value a) (hex_digit_value b) (decode_pairs (i + 2) bs) ∙ rw (same_digit a, same_digit b, pairs (i + 2) bs) refl
+-- bytes after those that are there
+abbrev pub hex_after : List ℕ → Option (List ℕ) → Option (List ℕ)
+hex_after had o = and_then o (λ bs. Some (had ++ bs))
 
-nothing : (high low : Option ℕ) (rest : Option (List ℕ)) → rest ≡ None → pair high low rest ≡ None
-nothing (Some h) (Some l) rest e = rw e refl
-nothing (Some h) None rest e = refl
-nothing None low rest e = refl
+-- a byte, where there is one, before the bytes of the rest
+abbrev before : Option ℕ → Option (List ℕ) → Option (List ℕ)
+before byte rest = and_then byte (λ b. and_then rest (λ bs. Some (b ∷ bs)))
 
-odd : (w : List ℕ) → length w % 2 ≡ 1 → hex_of w ≡ None
-odd [] h = absurd (omega (arith, h))
-odd (a ∷ []) h = refl
-odd (a ∷ b ∷ bs) h = nothing (nibble_of a) (nibble_of b) (hex_of bs) (odd bs (omega (arith, h)))
+of_pair : (high low : Option ℕ) (rest : Option (List ℕ)) → and_then high (λ h. and_then low (λ l. and_then rest (λ bs. Some ((h * 16 + l) ∷ bs)))) ≡ before (and_then high (λ h. and_then low (λ l. Some (h * 16 + l)))) rest
+of_pair (Some h) (Some l) rest = refl
+of_pair (Some h) None rest = refl
+of_pair None low rest = refl
 
-sized : (w : List ℕ) → decode_sized w (length w / 2) ≡ decode_of w
-sized w = grind (arith, nat_tests)
+-- the first pair's byte, before those of the others
+split : (a b : ℕ) (bs : List ℕ) → hex_of (a ∷ b ∷ bs) ≡ before (byte_of a b) (hex_of bs)
+split a b bs = of_pair (nibble_of a) (nibble_of b) (hex_of bs)
 
-of_word : (w : List ℕ) → (length w == 0) ≡ false → bytes_of w ≡ result_ok (decode_of w)
-of_word w h = elim (cases_lt (length w % 2) 1) [
-  | inl even ↦ rw (h, decode_of-even w (omega arith)) (sym (pairs 0 w))
-  | inr one ↦ rw (h, decode_of-odd w (omega arith)) (odd w (omega arith))
-]
+joined : (had : List ℕ) (b : ℕ) (o : Option (List ℕ)) → hex_after (had ++ b ∷ []) o ≡ hex_after had (before (Some b) o)
+joined had b (Some bs) = ap Some (append_assoc had (b ∷ []) bs)
+joined had b None = refl
 
--- a word that is not empty writes the bytes that are decoded from it into half as many places
-pub decoded : (w : List ℕ) → (length w == 0) ≡ false → bytes_of w ≡ result_ok (decode_sized w (length w / 2))
-decoded w h = of_word w h ∙ ap result_ok (sym (sized w))
+-- a byte more
+pub paired : (w had had' : List ℕ) (b : ℕ) (end : Option (List ℕ)) → 2 ≤ length w → byte_of (get_or w 0 0) (get_or w 1 0) ≡ Some b → had' ≡ had ++ b ∷ [] → hex_after had (hex_of w) ≡ end → hex_after had' (hex_of (take (length w - 2) (drop 2 w))) ≡ end
+paired [] had had' b end long byte more inv = absurd (omega (arith, long))
+paired (x ∷ []) had had' b end long byte more inv = absurd (omega (arith, long))
+paired (x ∷ y ∷ bs) had had' b end long byte more inv =
+    let whole : take (length (x ∷ y ∷ bs) - 2) (drop 2 (x ∷ y ∷ bs)) ≡ bs = take_all (length (x ∷ y ∷ bs) - 2) bs (omega arith) in
+    rw (whole, more) (joined had b (hex_of bs) ∙ ap (λ o. hex_after had (before o (hex_of bs))) (sym byte) ∙ ap (hex_after had) (sym (split x y bs)) ∙ inv)
 
--- decoding into places leaves there what it answers
-pub placed : (d : Result (List ℕ) FromHexError) (r : Result (Unit {0}) FromHexError) (out : List ℕ) → MatchResult d (λ bs. (r ≡ Ok tt) × (out ≡ bs)) (λ e. r ≡ Err e) → IsOk r → Some out ≡ result_ok d
-placed (Ok bs) r out m h = ap Some m.1
-placed (Err e) r out m h = let never = rw m at h in grind (arith)
-
-pub unplaced : (d : Result (List ℕ) FromHexError) (r : Result (Unit {0}) FromHexError) (out : List ℕ) → MatchResult d (λ bs. (r ≡ Ok tt) × (out ≡ bs)) (λ e. r ≡ Err e) → IsErr r → None ≡ result_ok d
-unplaced (Ok bs) r out m h = let never = rw m.0 at h in grind (arith)
-unplaced (Err e) r out m h = refl
+pub none_yet : (had : List ℕ) (o : Option (List ℕ)) → had ≡ [] → hex_after had o ≡ o
+none_yet had (Some bs) e = rw e refl
+none_yet had None e = refl

@@ -3,6 +3,7 @@
 --   number_of   the number that one to nine decimal digits write
 --   up_to       the number that a word writes, where it is at most a limit
 --   nibble_of   the value of a hexadecimal digit, in upper or lower case
+--   byte_of     the byte that two hexadecimal digits write
 --   hex_of      the bytes that pairs of hexadecimal digits write
 --   bytes_of    the same of a word, which is not empty
 use Rattle.std.specs.Prelude.{ℕ, ◌+◌, ◌-◌, ◌*◌, Bool, cond, ◌&&◌, List, [], ◌∷◌, length, Some, None, Option, ◌==◌, nat_le, nat_lt}
@@ -34,6 +35,9 @@ number_of w = cond (length w == 0) None (cond (nat_lt 9 (length w)) None (digits
 
 abbrev pub up_to : ℕ → List ℕ → Option ℕ
 up_to limit w = and_then (number_of w) (λ n. only (nat_le n limit) n)
+
+abbrev pub byte_of : ℕ → ℕ → Option ℕ
+byte_of first second = and_then (nibble_of first) (λ h. and_then (nibble_of second) (λ l. Some (h * 16 + l)))
 
 abbrev pub hex_of : List ℕ → Option (List ℕ)
 hex_of [] = Some []

@@ -1,9 +1,9 @@
 // Numbers and bytes that words write.
-ghost use Rattle.std.specs.Prelude.{◌≡◌, IfOk, vec_items};
+ghost use Rattle.std.specs.Prelude.{◌≡◌, IfOk};
 ghost use Rattle.std.specs.Option.{option_map};
-ghost use Rattle.words.specs.Numerals.{number_of, up_to, bytes_of};
+ghost use Rattle.words.specs.Numerals.{number_of, up_to, byte_of, bytes_of};
 
-use std::alloc::{AllocError, Global};
+use std::alloc::AllocError;
 
 // The number of one to nine digits that a word writes.
 pub fn number(word: &[u8]) -> Option<u32>
@@ -26,16 +26,36 @@ pub fn number_up_to(word: &[u8], limit: u32) -> Option<u32>
     number(word).filter(|n| *n <= limit)
 }
 
-// The bytes that a word of hexadecimal digits writes; None where it writes none.
-pub fn hex(heap: Global, word: &[u8]) -> Result<Option<Vec<u8>>, AllocError>
-    ensures { IfOk result (λ bytes. option_map vec_items bytes ≡ bytes_of word.now) }
+// The byte that two hexadecimal digits write.
+fn byte(first: u8, second: u8) -> Option<u8>
+    ensures { result ≡ byte_of first second }
 {
+    let high = char::from(first).to_digit(16)?;
+    let low = char::from(second).to_digit(16)?;
+    // A cast, since two digits write less than 256.
+    Some((high * 16 + low) as u8)
+}
+
+// The bytes that a word of hexadecimal digits writes; None where it writes none. They replace what the lent list held.
+// Pair by pair, so that no memory is asked for what stands behind a bad pair.
+pub fn hex<'b>(word: &[u8], out: &'b mut Vec<u8>) -> Result<Option<&'b [u8]>, AllocError>
+    ensures { IfOk result (λ bytes. option_map (λ b. b.now) bytes ≡ bytes_of word.now) }
+{
+    out.clear();
     if word.is_empty() {
         return Ok(None);
     }
-    let mut bytes = vec![in heap; 0u8; word.len() / 2]?;
-    match hex::decode_to_slice(word, bytes.as_mut_slice()) {
-        Ok(()) => Ok(Some(bytes)),
-        Err(_) => Ok(None),
+    let mut rest = word;
+    while let [first, second, tail @ ..] = rest {
+        let Some(b) = byte(*first, *second) else {
+            return Ok(None);
+        };
+        out.push(b)?;
+        rest = tail;
+    }
+    if rest.is_empty() {
+        Ok(Some(out.as_slice()))
+    } else {
+        Ok(None)
     }
 }
