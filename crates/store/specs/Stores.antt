@@ -1,6 +1,7 @@
 -- What a table of overlays holds, and what its operations make of it and of the memory.
 --   Store        the entries of the stored overlays, and how many bytes of the overlay that is being sent have come
 --   kept         how many bytes of the memory are in use: those of the stored overlays, and then those that have come
+--   Bounded      what holds of every table: at most 64 overlays are stored, and the bytes in use fit a number of 64 bits
 --   Answer       a store as it is left, and how the call ended
 --   Held         a store and the memory as they are left, and how the call ended
 --   outside      an ID that no overlay has
@@ -10,7 +11,7 @@
 --   dropping     the overlay that is being sent is dropped
 --   deleting     the overlay with an ID, or all with ID 0, leave the table; the bytes behind it move down, and what
 --                lies behind the bytes that are then kept stays
-use Rattle.std.specs.Prelude.{ℕ, ◌+◌, Bool, true, cond, List, [], ◌∷◌, ◌++◌, length, take, drop, is_some, Some, None, Ok, Err, Option, Result, ◌==◌, nat_le, nat_lt}
+use Rattle.std.specs.Prelude.{ℕ, ◌+◌, ◌<◌, ◌≤◌, ◌^◌, Bool, true, cond, List, [], ◌∷◌, ◌++◌, length, take, drop, is_some, Some, None, Ok, Err, Option, Result, ◌==◌, nat_le, nat_lt}
 use Rattle.std.specs.List.{remove}
 use Rattle.queue.specs.Queues.{span_in, span_out}
 use Rattle.refusal.specs.declared.Refusal.{Refusal}
@@ -31,6 +32,10 @@ empty_store = store [] 0
 
 abbrev pub kept : Store → ℕ
 kept s = sizes s.entries + s.begun
+
+pub record Bounded (s : Store) : Type 0 where
+  pub few : length s.entries ≤ 64
+  pub fits : kept s < 2 ^ 64
 
 pub record Answer : Type 0 where
   pub store : Store

@@ -22,4 +22,5 @@ pub use fault::TextFault;
 pub use font::Font;
 pub use mark::Mark;
 pub use theorems::laws_stand;
+pub use write::write_text;
 pub use writer::Writer;

@@ -1,6 +1,6 @@
 // A text.
 ghost use Rattle.std.specs.Prelude.{◌≡◌, ◌≤◌, false, length, position, IfOk};
-ghost use Rattle.text.specs.Canvases.{canvas_of, out, Grows};
+ghost use Rattle.text.specs.Canvases.{canvas, canvas_of, out, Grows};
 ghost use Rattle.text.specs.Controls.{Whole};
 ghost use Rattle.text.specs.Runs.{located};
 ghost use Rattle.text.specs.Effects.{obeyed};
@@ -8,8 +8,10 @@ ghost use Rattle.text.specs.Judging.{Judged};
 ghost use Rattle.text.specs.Laws.{Inside};
 ghost use Rattle.text.specs.Texts.{begins, plain, control_at, text_of};
 
+use crate::conditions::TextConditions;
 use crate::control::Control;
 use crate::fault::TextFault;
+use crate::mark::Mark;
 use crate::writer::Writer;
 
 // The first byte of a control's introducer.
@@ -99,4 +101,27 @@ impl Writer<'_> {
     {
         self.write_all(data)
     }
+}
+
+// The same by a writer on a list whose count and conditions the caller holds.
+pub fn write_text(
+    marks: &mut [Mark],
+    count: &mut usize,
+    conditions: &mut TextConditions,
+    data: &[u8],
+) -> Result<(), TextFault>
+    ensures text { out (canvas marks.new count.new conditions.new) result ≡ text_of «data».now (canvas marks.old count.old conditions.old) }
+    ensures grows { Grows (canvas marks.old count.old conditions.old) (canvas marks.new count.new conditions.new) }
+    ensures inside { Inside (length «data».now) result }
+    ensures judged { Judged false 0 «data».now (canvas marks.old count.old conditions.old) (out (canvas marks.new count.new conditions.new) result) }
+{
+    let mut writer = Writer {
+        marks,
+        count: *count,
+        conditions: *conditions,
+    };
+    let result = writer.write_text(data);
+    *count = writer.count;
+    *conditions = writer.conditions;
+    result
 }

@@ -1,6 +1,6 @@
 // The overlay that is being sent.
 ghost use Rattle.std.specs.Prelude.{◌≡◌, ℕ, ◌+◌, ◌≤◌, List, length, is_ok, if◌then◌else◌};
-ghost use Rattle.store.specs.Stores.{answer, held, beginning, written, storing, dropping};
+ghost use Rattle.store.specs.Stores.{answer, held, beginning, written, storing, dropping, Bounded};
 ghost use Rattle.store.specs.Contents.{contents};
 ghost use Rattle.store.specs.Laws.{emptied, appended, BeginGrounds, StoreGrounds};
 
@@ -20,8 +20,10 @@ impl Overlays {
     pub fn drop_open(&mut self)
         ensures store { self.new ≡ dropping self.old }
         ensures contents { (m : List ℕ) → contents m self.new ≡ emptied (contents m self.old) }
+        ensures bounded { Bounded self.new }
     {
         self.begun = 0;
+        self.bounded();
     }
 
     // Why an overlay with this ID cannot begin.
@@ -45,7 +47,9 @@ impl Overlays {
         ensures store { answer self.new result ≡ beginning id self.old }
         ensures contents { (m : List ℕ) → contents m self.new ≡ (if is_ok result then emptied (contents m self.old) else contents m self.old) }
         ensures grounds { BeginGrounds id self.old result }
+        ensures bounded { Bounded self.new }
     {
+        self.bounded();
         self.check_new(id)?;
         self.drop_open();
         Ok(())
@@ -56,13 +60,16 @@ impl Overlays {
         ensures store { held self.new memory.new result ≡ storing command.now self.old memory.old }
         ensures contents { contents memory.new self.new ≡ (if is_ok result then appended command.now (contents memory.old self.old) else contents memory.old self.old) }
         ensures grounds { StoreGrounds command.now self.old memory.old result }
+        ensures bounded { Bounded self.new }
     {
+        self.bounded();
         let kept = self.kept();
         if kept > memory.len() || command.len() > memory.len() - kept {
             return Err(Refusal::StoreFull);
         }
         put(memory, kept, command);
         self.begun += command.len();
+        self.bounded();
         Ok(())
     }
 }

@@ -1,7 +1,7 @@
 // The overlays that are stored.
 ghost use Rattle.std.specs.Prelude.{◌≡◌, ℕ, ◌<◌, ◌≤◌, List, length, is_ok, if◌then◌else◌};
 ghost use Rattle.store.specs.Entries.{found_in};
-ghost use Rattle.store.specs.Stores.{empty_store, kept, held, closing, closed_up, deleting_at, deleting};
+ghost use Rattle.store.specs.Stores.{empty_store, kept, held, closing, closed_up, deleting_at, deleting, Bounded};
 ghost use Rattle.store.specs.Contents.{contents};
 ghost use Rattle.store.specs.Laws.{ended, deleted, Session, Gapless, OnceLaws, DeleteGrounds};
 
@@ -21,7 +21,8 @@ fn close_up(memory: &mut [u8], kept: usize, found: Found)
 impl Overlays {
     // Nothing is stored and nothing is being sent.
     pub fn new() -> Overlays
-        ensures { result ≡ empty_store }
+        ensures store { result ≡ empty_store }
+        ensures bounded { Bounded result }
     {
         Overlays {
             entries: Queue::new(Entry::default()),
@@ -36,6 +37,7 @@ impl Overlays {
         ensures contents { (m : List ℕ) → length self.old.entries < 64 → contents m self.new ≡ ended id (contents m self.old) }
         ensures session { Session }
         ensures gapless { Gapless }
+        ensures bounded { Bounded self.new }
     {
         let entry = Entry {
             id,
@@ -45,16 +47,20 @@ impl Overlays {
             self.bytes += self.begun;
             self.begun = 0;
         }
+        self.bounded();
     }
 
     // Takes the overlay with this ID out of the table and its bytes out of the memory.
     fn remove(&mut self, memory: &mut [u8], id: u16) -> Result<(), Refusal>
-        ensures { held self.new memory.new result ≡ deleting_at (found_in self.old.entries id) self.old memory.old }
+        ensures store { held self.new memory.new result ≡ deleting_at (found_in self.old.entries id) self.old memory.old }
+        ensures bounded { Bounded self.new }
     {
+        self.bounded();
         let found = self.find(id).ok_or(Refusal::NotStored)?;
         close_up(memory, self.kept(), found);
         self.entries.remove(found.at);
         self.bytes -= found.size;
+        self.bounded();
         Ok(())
     }
 
@@ -64,7 +70,9 @@ impl Overlays {
         ensures contents { kept self.old ≤ length memory.old → contents memory.new self.new ≡ (if is_ok result then deleted id (contents memory.old self.old) else contents memory.old self.old) }
         ensures grounds { DeleteGrounds id self.old result }
         ensures once { OnceLaws }
+        ensures bounded { Bounded self.new }
     {
+        self.bounded();
         match id {
             0 => {
                 *self = Overlays::new();

@@ -2,7 +2,7 @@
 ghost use Rattle.std.specs.Prelude.{◌≡◌, ◌≤◌, length};
 ghost use Rattle.std.specs.Option.{option_map};
 ghost use Rattle.store.specs.Entries.{found_in};
-ghost use Rattle.store.specs.Stores.{kept, full};
+ghost use Rattle.store.specs.Stores.{kept, full, Bounded};
 ghost use Rattle.store.specs.Contents.{overlays_in, bytes_in};
 
 use super::{MOST, Overlays};
@@ -22,6 +22,15 @@ impl Overlays {
         ensures { result ≡ kept self.now }
     {
         self.bytes + self.begun
+    }
+
+    // What holds of every table: the calls that make or change one tell it of what they leave. By a look at both numbers
+    // the check learns what the types hold.
+    pub(super) fn bounded(&self)
+        ensures { Bounded self.now }
+    {
+        let _ = self.count();
+        let _ = self.kept();
     }
 
     // Whether no further overlay can be stored.

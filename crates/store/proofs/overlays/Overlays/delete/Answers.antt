@@ -9,11 +9,11 @@ returns-in-0-clause-once c = once_laws
 
 pub returns-in-1-to-127-clause-contents : goal.returns-in-1-to-127-clause-contents
 returns-in-1-to-127-clause-contents c =
-    λ room. deletes c.args.id c.args.self.now _ _ _ _ room (deletes_one c.args.id c.args.self.now c.args.memory.now _ (omega arith) (omega arith) c.remove.ensures)
+    λ room. deletes c.args.id c.args.self.now _ _ _ _ room (deletes_one c.args.id c.args.self.now c.args.memory.now _ (omega arith) (omega arith) c.remove.ensures.store)
 
 pub returns-in-1-to-127-clause-grounds : goal.returns-in-1-to-127-clause-grounds
 returns-in-1-to-127-clause-grounds c =
-    delete_grounds c.args.id c.args.self.now _ _ _ _ (deletes_one c.args.id c.args.self.now c.args.memory.now _ (omega arith) (omega arith) c.remove.ensures)
+    delete_grounds c.args.id c.args.self.now _ _ _ _ (deletes_one c.args.id c.args.self.now c.args.memory.now _ (omega arith) (omega arith) c.remove.ensures.store)
 
 pub returns-in-1-to-127-clause-once : goal.returns-in-1-to-127-clause-once
 returns-in-1-to-127-clause-once c = once_laws
