@@ -1,10 +1,10 @@
--- A search through the table, entry by entry, and what it finds: the first entry with the ID.
-use Rattle.std.proofs.Common.{◌≡◌, ℕ, zero, suc, ◌+◌, ◌<◌, ◌≤◌, Bool, true, false, eqb, List, [], ◌∷◌, length, get_or, map, sum, take, drop, Some, None, Option, sym, refl, ap, ◌∙◌, subst, arith}
+-- What a search through the table finds: the first entry with the ID.
+use Rattle.std.proofs.Common.{◌≡◌, ℕ, zero, suc, ◌+◌, ◌<◌, ◌≤◌, ◌^◌, Bool, true, false, eqb, List, [], ◌∷◌, length, get_or, map, sum, take, Some, None, Option, sym, refl, ap, ◌∙◌, subst, arith}
 use Rattle.std.specs.List.{position, position_or_len, remove}
-use Rattle.std.proofs.lemmas.List.{length-take-le, get_or-take, at_drop_more, at_drop_all}
-use Rattle.std.proofs.lemmas.Bool.{cond-true, cond-false, eqb-true, eq-eqb, ne_eqb}
+use Rattle.std.proofs.lemmas.List.{length-take-le, get_or-take}
+use Rattle.std.proofs.lemmas.Bool.{cond-true, cond-false, eqb-true}
 use Rattle.std.proofs.lemmas.Bool.Decides.{nat_tests}
-use Rattle.std.proofs.lemmas.List.Sums.{sum_by-cons, sum_by_more_le, sum_by-remove, sum-map, fails_before_first}
+use Rattle.std.proofs.lemmas.List.Sums.{sum_by-cons, sum_by-take-le, sum_by_more_le, sum_by-remove, sum-map, fails_before_first}
 use Rattle.std.proofs.lemmas.List.Quantifiers.{position-Some}
 use Rattle.store.specs.declared.entry.Entry.{Entry}
 use Rattle.store.specs.declared.entry.Found.{Found}
@@ -16,20 +16,9 @@ size_of e = e.size
 abbrev pub has_id : ℕ → Entry → Bool
 has_id id e = eqb e.id id
 
--- the search goes on from entry i, whose bytes begin at s
-module _ (es : List Entry) (i s id : ℕ) (inv : found_from i s (drop i es) id ≡ found_in es id) where
-  pub here : (d : Entry) → i < length es → (get_or es i d).id ≡ id → Some (found i s (get_or es i d).size) ≡ found_in es id
-  here d h e = sym (cond-true _ _ _ (eq-eqb _ _ e)) ∙ sym (at_drop_more (λ l. found_from i s l id) es i d h) ∙ inv
-
-  pub passed : (d : Entry) → i < length es → ((get_or es i d).id ≡ id → ⊥) → found_from (i + 1) (s + (get_or es i d).size) (drop (i + 1) es) id ≡ found_in es id
-  passed d h ne = sym (cond-false _ _ _ (ne_eqb _ _ ne)) ∙ sym (at_drop_more (λ l. found_from i s l id) es i d h) ∙ inv
-
-  pub not_there : length es ≤ i → None ≡ found_in es id
-  not_there h = sym (at_drop_all (λ l. found_from i s l id) es i h) ∙ inv
-
--- the bytes of entry i and of those behind it
-pub sizes_more : (es : List Entry) (i : ℕ) (d : Entry) → i < length es → sizes (drop i es) ≡ (get_or es i d).size + sizes (drop (i + 1) es)
-sizes_more es i d h = at_drop_more sizes es i d h ∙ sum_by-cons size_of (get_or es i d) (drop (i + 1) es)
+-- the entries before a place have no more bytes than all
+pub sum_fits : (es : List Entry) (at : ℕ) → sizes es < 2 ^ 64 → sum (map size_of (take at es)) < 2 ^ 64
+sum_fits es at h = omega (arith, sum-map size_of (take at es), sum_by-take-le size_of es at)
 
 found_first : (es : List Entry) (a s id at : ℕ) (d : Entry) → at < length es → has_id id (get_or es at d) ≡ true → ((k : ℕ) → k < at → has_id id (get_or es k d) ≡ false) → found_from a s es id ≡ Some (found (a + at) (s + sizes (take at es)) (get_or es at d).size)
 found_first [] a s id at d h is before = absurd (omega arith)

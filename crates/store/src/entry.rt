@@ -19,22 +19,16 @@ pub struct Found {
     pub size: usize,
 }
 
-// Where the first overlay with this ID is. One pass: the sizes are added on the way, which is faster than a sum of them
-// afterwards.
+// Where the first overlay with this ID is.
 pub(crate) fn find_in(entries: &[Entry], id: u16) -> Option<Found>
     requires { sizes entries.now < 2 ^ 64 }
     ensures { result ≡ found_in entries.now id }
 {
-    let mut start = 0;
-    for (at, entry) in entries.iter().enumerate() {
-        if entry.id == id {
-            return Some(Found {
-                at,
-                start,
-                size: entry.size,
-            });
-        }
-        start += entry.size;
-    }
-    None
+    let at = entries.iter().position(|entry| entry.id == id)?;
+    let start = entries[..at].iter().map(|entry| entry.size).sum();
+    Some(Found {
+        at,
+        start,
+        size: entries[at].size,
+    })
 }

@@ -32,8 +32,7 @@ impl Writer<'_> {
         Ok(())
     }
 
-    // A number of characters from a pattern: too many, or some of an empty pattern, are refused. Count and conditions are
-    // held apart from the caller's meanwhile, as in a run of characters.
+    // A number of characters from a pattern: too many, or some of an empty pattern, are refused.
     pub(crate) fn repeat(&mut self, pattern: &[u8], times: u16) -> Result<(), Refusal>
         ensures same_list { self.new.marks.ghost_name ≡ self.old.marks.ghost_name }
         ensures repeat { out (canvas_of self.new) result ≡ repeated times pattern.now (canvas_of self.old) }
@@ -41,14 +40,6 @@ impl Writer<'_> {
         if times > MOST || pattern.is_empty() && times > 0 {
             return Err(Refusal::BadControl);
         }
-        let mut writer = Writer {
-            marks: &mut *self.marks,
-            count: self.count,
-            conditions: self.conditions,
-        };
-        let result = writer.cycle(pattern, usize::from(times));
-        self.count = writer.count;
-        self.conditions = writer.conditions;
-        result
+        self.cycle(pattern, usize::from(times))
     }
 }

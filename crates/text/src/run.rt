@@ -20,7 +20,7 @@ impl Writer<'_> {
 
     // Characters from an offset on, each refused at its own. The place is counted, since a refusal tells it as its
     // offset.
-    fn run_in_place(&mut self, codes: &[u8], at: usize) -> Result<(), TextFault>
+    pub(crate) fn run(&mut self, codes: &[u8], at: usize) -> Result<(), TextFault>
         requires { at + length codes.now < 2 ^ 64 }
         ensures same_list { self.new.marks.ghost_name ≡ self.old.marks.ghost_name }
         ensures run { out (canvas_of self.new) result ≡ run at codes.now (canvas_of self.old) }
@@ -32,24 +32,6 @@ impl Writer<'_> {
             })?;
         }
         Ok(())
-    }
-
-    // The same, by a writer of its own on the same list: count and conditions are held apart from the caller's while
-    // the characters are placed, which is faster.
-    pub(crate) fn run(&mut self, codes: &[u8], at: usize) -> Result<(), TextFault>
-        requires { at + length codes.now < 2 ^ 64 }
-        ensures same_list { self.new.marks.ghost_name ≡ self.old.marks.ghost_name }
-        ensures run { out (canvas_of self.new) result ≡ run at codes.now (canvas_of self.old) }
-    {
-        let mut writer = Writer {
-            marks: &mut *self.marks,
-            count: self.count,
-            conditions: self.conditions,
-        };
-        let result = writer.run_in_place(codes, at);
-        self.count = writer.count;
-        self.conditions = writer.conditions;
-        result
     }
 
     // The characters of a control.

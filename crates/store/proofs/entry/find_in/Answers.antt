@@ -1,22 +1,20 @@
-use Rattle.std.proofs.Common.{refl, arith}
-use Rattle.store.proofs.Searching.{here, passed, not_there, sizes_more}
-use Rattle.store.specs.Entries.{entry}
+use Rattle.std.proofs.Common.{take, sym, ◌∙◌, rules, tests}
+use Rattle.std.proofs.lemmas.Iterator.{YieldsList-from_slice, YieldsList-from_map}
+use Rattle.std.proofs.lemmas.Iterator.Search.{position_from_yields_List}
+use Rattle.std.proofs.lemmas.Iterator.Consumers.{sum_from_yields_List, fits_from_yields_list}
+use Rattle.store.proofs.Searching.{size_of, has_id, sum_fits, found_by, not_found_by}
 use Rattle.store.proofs.entry.find_in.Goals as goal
 
-pub loop-at-init : goal.loop-at-init
-loop-at-init c = (refl, omega arith)
+pub returns-in_err-at : goal.returns-in_err-at
+returns-in_err-at c =
+    let p = position_from_yields_List (has_id c.args.id) _ _ c.position.result c.position.ensures.ran (YieldsList-from_slice c.args.entries.now cc) (λ x b q k. search (rules, tests)) in
+    c.from_residual.ensures ∙ not_found_by c.args.entries.now c.args.id (sym p ∙ c.in_err-at.was)
 
-pub returns-then-entry-id : goal.returns-then-entry-id
-returns-then-entry-id c = here _ c.loop-at.at c.loop-at.start _ c.loop-at.invariant.0 _ (omega arith) c.if-entry-id.true
-
-pub overflow_add-start : goal.overflow_add-start
-overflow_add-start c = omega (arith, c.loop-at.invariant.1, sizes_more c.args.entries.now c.loop-at.at (entry 0 0) c.loop-at-test.true)
-
-pub loop-at-preserved : goal.loop-at-preserved
-loop-at-preserved c = (
-  passed _ c.loop-at.at c.loop-at.start _ c.loop-at.invariant.0 (entry 0 0) (omega arith) c.if-entry-id.false,
-  omega (arith, c.loop-at.invariant.1, sizes_more c.args.entries.now c.loop-at.at (entry 0 0) c.loop-at-test.true),
-)
+pub sum-start-requires-clause-fits : goal.sum-start-requires-clause-fits
+sum-start-requires-clause-fits c =
+    fits_from_yields_list c.map.result _ (YieldsList-from_map _ size_of (YieldsList-from_slice (take c.in_ok-at.at c.args.entries.now) cc) c.map.ensures.closure (λ x b q k. search (rules, tests))) (sum_fits c.args.entries.now c.in_ok-at.at c.requires)
 
 pub returns : goal.returns
-returns c = not_there _ c.loop-at.at c.loop-at.start _ c.loop-at.invariant.0 (omega arith)
+returns c =
+    let p = position_from_yields_List (has_id c.args.id) _ _ c.position.result c.position.ensures.ran (YieldsList-from_slice c.args.entries.now cc) (λ x b q k. search (rules, tests)) in
+    found_by c.args.entries.now c.args.id c.in_ok-at.at _ (sym p ∙ c.in_ok-at.was) (sum_from_yields_List c.map.result _ c.sum-start.ensures.ran (YieldsList-from_map _ size_of (YieldsList-from_slice (take c.in_ok-at.at c.args.entries.now) cc) c.map.ensures.closure (λ x b q k. search (rules, tests))))

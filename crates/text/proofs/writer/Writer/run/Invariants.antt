@@ -1,7 +1,7 @@
 use Rattle.std.proofs.Common.{◌≡◌, ◌+◌, drop}
 use Rattle.text.specs.Canvases.{canvas_of}
 use Rattle.text.specs.Runs.{run}
-use Rattle.text.proofs.writer.Writer.run_in_place.Given as goal
+use Rattle.text.proofs.writer.Writer.run.Given as goal
 
 abbrev pub invariant-loop-k : goal.invariant-loop-k
 invariant-loop-k l =

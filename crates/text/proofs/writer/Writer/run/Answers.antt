@@ -2,7 +2,7 @@ use Rattle.std.proofs.Common.{◌≡◌, ◌+◌, ◌∙◌, arith, rules}
 use Rattle.text.specs.Runs.{located_in}
 use Rattle.text.proofs.Runs.{run_on, run_off, run_end}
 use Rattle.text.proofs.Outs.{handed_on}
-use Rattle.text.proofs.writer.Writer.run_in_place.Goals as goal
+use Rattle.text.proofs.writer.Writer.run.Goals as goal
 
 pub returns-in_err-map_err-clause-run : goal.returns-in_err-map_err-clause-run
 returns-in_err-map_err-clause-run c =
