@@ -21,9 +21,9 @@ pub fn next_page(job: &[Page], reply: Reply) -> Option<Page>
     } else {
         0
     };
-    // The cast loses nothing: what is left is no more than was wanted.
+    let begun = u8::try_from(begun).unwrap_or(u8::MAX);
     Some(Page {
         id: page.id,
-        copies: u16::from(page.copies).saturating_sub(begun) as u8,
+        copies: page.copies.saturating_sub(begun),
     })
 }
